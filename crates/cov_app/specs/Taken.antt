@@ -39,7 +39,7 @@ abbrev pub HasOneText : List Word → Type 0
 HasOneText words = (c : PlainCommand) → IsCommand c words → has_one_text c ≡ true
 
 -- The objects followed the step of the words, with `err` beside them, and it ended so. The answer
--- says how, and its text was the last that was said.
+-- says how. Its text was said at last, unless one before it was refused.
 pub record StepTaken {W E : Type 0} (moves : Moves Call Answer W) (err : SinkOf E)
     (words : List Word) (old new : W) (answer : Why) (what : Told) (before after : E)
     : Type 0 where

@@ -73,9 +73,10 @@ pub fn coverage<H: Shelf, V: Vault, M: Maker, I: Source, O: Sink, E: Sink, G: En
 
     // The headline. Where the objects tell what they hold and count no fault, memory suffices and
     // the engine is true, every run prints and ends as its source means. Its arcs are those of that
-    // meaning, each predicted or crossed by an exception. A report's missing lines and branches are
-    // exactly the predicted, unexcluded ones that no combined run took. So it is of each line of a
-    // script, over the data of all lines before it.
+    // meaning, each predicted or crossed by an exception. What `report` lists as missing lines and
+    // branches are exactly the predicted ones, neither excluded nor freed, that neither a combined
+    // run nor data that were there at first took. So it is of each line of a script, over the data
+    // that those before it left.
     ensures headline { HeadsWhere
         H.Shelf V.Vault M.Maker I.Source O.Sink P.Plugin G.Engine E.Sink
         (map string_bytes words.now) (plain_why result.why)
@@ -107,9 +108,9 @@ pub fn coverage<H: Shelf, V: Vault, M: Maker, I: Source, O: Sink, E: Sink, G: En
     ensures kept { is_refusal (plain_why result.why) ≡ true
         → ChangesLast (map string_bytes words.now)
         → AreLeft H.Shelf V.Vault shelf.old shelf.new vault.old vault.new }
-    // A refusal but a fault and want of memory comes before anything is run or written, where words
-    // aren't those of `script`: that data are bad, where the vault tells what it holds; that an
-    // import of tests failed, where words aren't those of `suite`.
+    // A refusal but a fault and want of memory leaves input, output, plugins and engine as they
+    // were, where words aren't those of `script`: that data are bad, where the vault tells what it
+    // holds; that an import of tests failed, where words aren't those of `suite`.
     ensures untouched { IsEarly (map string_bytes words.now) (V.tells vault.old)
         (plain_why result.why)
         → HasOneText (map string_bytes words.now)

@@ -1,24 +1,32 @@
 -- The headline. For any list of runs, combines and reports, every run prints and ends as its
 -- source's meaning says, its recorded arcs are those of that meaning, each of them is predicted or
 -- crossed by a raised exception, and the report's missing lines and branches are exactly the
--- predicted, unexcluded ones that no combined run took, whatever the order of combining. So it is
--- of a single command too.
+-- predicted ones that are neither excluded nor freed and that no combined run took, whatever the
+-- order of combining. So it is of a single command too.
 --     CommandDone, LineDone                 a line of a script
 --     LinesKept, ScriptKept                 its lines, one after another
 --     DoneOrRefused, KeptBy, CommandKept    a command
 --     Headline, HeadlineLaw                 words, over objects that tell what they hold
 -- These words are defined elsewhere:
---     Promise      what a command promises that did its work. A run prints and ends as its source
---                  means, and the arcs and lines of that meaning are saved, each arc foreseen. Data
---                  that are combined have the rows of all, in whatever order. A report lists as
---                  missing exactly what none of the runs took that its data come from. Tests end and
---                  are recorded as the modules mean, and so tests are selected and mutants judged.
---                  Each other command saves no data.
+--     Promise      what a command promises that did its work:
+--         a run: the modules of its script's files ran with its words and the input that was left;
+--             it printed and ended as they mean; its rows have exactly the arcs and lines of that
+--             meaning, each arc predicted or crossed by an exception; they are saved, joined to
+--             those that stood there where that was asked for
+--         a combine: the data of all inputs are saved as one, each path under its alias, and they
+--             are the same in whatever order the inputs come
+--         a report: the table of the data's sources is written. A line is missing exactly where it
+--             is a statement and isn't excluded, and a branch where it is predicted and neither
+--             excluded nor freed, if it was taken neither by a run that the data come from nor in
+--             data that were there at first
+--         a suite, a selection, verdicts of mutants: what is written of tests is what the modules
+--             mean, and of a suite the rows of the import and of each test are saved
+--         each other command: no data are saved
 --     runs_of      the runs that a command did, with their rows
 --     AreKept      all data come from these runs and from data that were there at first
 --     script_of    the file of a command that is a script
---     Held, held   what the objects of a command hold: files, data by name, input, output, `err` and
---                  plugins
+--     Held, held   what the objects of a command hold: files, data by name, input, output, `err`
+--                  and plugins
 --     tells        what a call answers by what is held, and what is held then
 --     Follows      a program of calls went so, from one state to another, and ended so
 --     IsSaidNow    a text is said on `err`
@@ -73,7 +81,7 @@ LineDone plugin first runs line old more new =
 
 -- Lines one after another, after these runs. Before each of them and after the last, all data that
 -- are kept come from the runs so far and from what was there at first. The first line that is
--- refused ends the script, and what those before it did stands.
+-- refused ends the script.
 abbrev pub LinesKept : {P : Type 0} → PluginOf P → Contents → Recorded → List Word → Held P
     → Result (List (Unit {0})) PlainWhy → Held P → Type 0
 LinesKept plugin first runs [] old told new =

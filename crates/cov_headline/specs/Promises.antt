@@ -149,7 +149,7 @@ AreRead files (s ∷ rest) =
     (files s.path ≡ Some s.text) × Reads s.text (tree s.body) × AreRead files rest
 
 -- of each source exactly those lines and branches are missing that are statements or predicted,
--- aren't excluded, and were taken by no run from which the data come
+-- aren't excluded or freed, and were taken nowhere where the data come from
 abbrev pub AreMissing : Patterns → DataSet → Origin → List PlainSource → Type 0
 AreMissing p d o [] = Unit {0}
 AreMissing p d o (s ∷ rest) =

@@ -16,10 +16,10 @@ use Rattle.cov_exclude.specs.Sources.{excluded_in, no_branch_in}
 use Rattle.cov_headline.specs.Origins.{Origin, data_of, Takes, Executes, IsOf}
 
 -- Of the source of a module at a path, with the texts of the patterns that exclude a line and of
--- those that free its branches. A statement line is missing that isn't excluded and that no run
--- executed, and no other is. Of data of arcs a branch is missing that no run took, from a line that
--- must take all of its branches, and no other is. Each branch is predicted. Of data of lines none
--- is missing.
+-- those that free its branches, over data that come from runs and from data that were found. A
+-- statement line is missing that isn't excluded and that none of these executed, and no other is.
+-- Of data of arcs a branch is missing that none of these took, from a line that must take all of
+-- its branches, and no other is. Each branch is predicted. Of data of lines none is missing.
 pub record MissingAre (exclude partial : List (List ℕ)) (path : Bytes) (text : List ℕ)
     (body : Stmts) (arcs : Bool) (o : Origin) (a : AnalysisView) : Type 0 where
   pub lines : (line : ℕ) → 0 < line

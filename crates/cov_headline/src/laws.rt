@@ -16,8 +16,9 @@ pub fn data_of_origins()
     ensures { OriginLaw }
 {}
 
-/// What a report over such data lists as missing is exactly what is predicted, or a statement,
-/// isn't excluded, and was taken by none of these runs. It does nothing when it runs.
+/// What a report over such data lists as missing are exactly the statements and the predicted
+/// branches that aren't excluded or freed, and that were taken neither by one of these runs nor in
+/// data that were found. It does nothing when it runs.
 pub fn missing_of_origins()
     ensures { ReportLaw }
 {}

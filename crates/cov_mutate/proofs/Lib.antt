@@ -3,5 +3,6 @@ pub mod Quiet
 pub mod Positive
 pub mod Meaning
 pub mod Verdicts
+pub mod SuiteLines
 pub mod Ran
 pub mod Steps

@@ -1,30 +1,21 @@
 -- What the unchanged programs did, from their data.
-use Rattle.std.proofs.Common.{◌≡◌, ◌↔◌, ◌⊎◌, inl, inr, ℕ, zero, suc, ◌<◌, false, List, [], ◌∷◌, map, length, Contains, Ok, Err, Result, encode_utf8_all, refl, ap, sym, subst, ◌∙◌, arith}
-use Rattle.std.proofs.lemmas.Str.{encodes_same}
+use Rattle.std.proofs.Common.{◌≡◌, ℕ, zero, suc, ◌<◌, Bool, List, [], ◌∷◌, map, length, Contains, Ok, Err, Result, refl, ap, sym, subst, arith, ◌∙◌}
+use Rattle.cov_arcs.specs.Laws.{ModulesArcsLaw, CallArcsLaw}
 use Rattle.cov_contexts.specs.declared.plugins.Plugin.{Ghosts as PluginOf}
 use Rattle.cov_data.specs.DataSet.{Text as Bytes}
-use Rattle.cov_measure_laws.specs.Units.{tree_units, program_units}
-use Rattle.cov_recorder.specs.Plan.{Named, path_at, set_at}
+use Rattle.cov_measure_laws.specs.Units.{program_units}
+use Rattle.cov_recorder.specs.Plan.{Named, set_at}
 use Rattle.cov_suite.specs.declared.results.SuiteError.{SuiteError}
 use Rattle.cov_suite.specs.declared.results.SuiteError.TheVariants.{NotImported, NoMemory}
-use Rattle.cov_suite.specs.Meant.{AreTested, IsMeantData, SuiteOf}
-use Rattle.cov_suite.specs.Results.{import_of, suite_of}
-use Rattle.cov_suite.specs.Suites.{RanSuite}
-use Rattle.cov_suite.specs.Tests.{tests_of}
+use Rattle.cov_suite.specs.Meant.{AreTested, SuiteOf}
 use Rattle.cov_suite.specs.Views.{SuiteView}
-use Rattle.cov_suite.proofs.DataLines.{HasCrossed, SomeCrossed, suite-lines}
-use Rattle.cov_verdicts.specs.Chosen.{test_of}
-use Rattle.cov_verdicts.specs.Verdicts.{IsReached}
-use Rattle.py_changes.specs.Paths.{path_of, HasReached}
-use Rattle.py_changes.specs.Tests.{tested}
 use Rattle.py_code.specs.declared.code.Programs.{Programs}
-use Rattle.py_meaning.specs.Activations.{Items}
 use Rattle.py_meaning.specs.Modules.{LoadedModule, body_of}
 use Rattle.py_syntax.specs.Prediction.{Arc, possible}
-use Rattle.py_syntax.specs.Tree.{Text}
 use Rattle.py_syntax.specs.View.{plain_module}
 use Rattle.py_syntax.specs.declared.stmt.Module.{Module}
-use Rattle.cov_mutate.specs.Meant.{AreMutable, HasRun, RanOf}
+use Rattle.cov_mutate.specs.Meant.{AreMutable, RanOf}
+use Rattle.cov_mutate.proofs.SuiteLines.{suite-lines}
 
 -- ---- sets of what is possible
 
@@ -48,48 +39,13 @@ are-tested ps trees ms are units named sets is = record {
   whole = λ m lt a at. subst (λ (s : List Arc). Contains s a) (sym (ap (λ (ss : List (List Arc)). set_at ss m) is ∙ hold trees ms are.bodies m lt)) at;
 }
 
--- ---- paths
-
--- the path of a module among the units of trees
-plan-path : (ms : List LoadedModule) (m : ℕ) → path_at (tree_units ms) m ≡ encode_utf8_all (path_of ms m)
-plan-path [] m = refl
-plan-path (x ∷ ms) zero = refl
-plan-path (x ∷ ms) (suc m) = plan-path ms m
-
-reached-is : (ms : List LoadedModule) (items : Items) (path : Text) (l : ℕ) → HasCrossed ms items (encode_utf8_all path) l ↔ HasReached ms items path l
-reached-is ms items path l = (
-  λ h. (h.0, h.1, encodes_same (path_of ms h.0) path (sym (plan-path ms h.0) ∙ h.2), h.3, h.4),
-  λ h. (h.0, h.1, plan-path ms h.0 ∙ ap encode_utf8_all h.2, h.3, h.4),
-)
-
 -- ---- the suite
 
-module _ {P : Type 0} (plugin : PluginOf P) (budget : ℕ) (ms : List LoadedModule) (fixed : Bytes) (old new : List P) where
-  module _ (m l : ℕ) (some : 0 < l) where
-    abbrev path : Bytes
-    path = encode_utf8_all (path_of ms m)
-
-    abbrev Crossed : Type 0
-    Crossed = HasCrossed ms (import_of ms budget).items path l ⊎ SomeCrossed plugin ms fixed budget path l some (tests_of ms)
-
-    to : Crossed → IsReached budget ms m l
-    to (inl h) = inl ((reached-is ms (import_of ms budget).items (path_of ms m) l).0 h)
-    to (inr (name, at, h)) = inr (name, at, (reached-is ms (tested ms (test_of budget name)).items (path_of ms m) l).0 h)
-
-    from : IsReached budget ms m l → Crossed
-    from (inl h) = inl ((reached-is ms (import_of ms budget).items (path_of ms m) l).1 h)
-    from (inr (name, at, h)) = inr (name, at, (reached-is ms (tested ms (test_of budget name)).items (path_of ms m) l).1 h)
-
-  lines-are : (s : SuiteView) → RanSuite (IsMeantData plugin ms false fixed) old (suite_of ms budget) s new → HasRun budget ms s
-  lines-are s r = record {
-    imports = r.imports;
-    tests = r.tests;
-    lines = λ m l some.
-        let all = suite-lines plugin ms fixed budget (encode_utf8_all (path_of ms m)) l some old s new r in
-        (λ at. to m l some (all.0 at), λ h. all.1 (from m l some h));
-  }
-
-  pub has-run : (answer : Result SuiteView SuiteError) → SuiteOf plugin ms false fixed budget old answer new → RanOf budget ms answer
-  has-run (Ok s) h = lines-are s h.ran
-  has-run (Err NotImported) h = (h.not_imported refl).stops
-  has-run (Err NoMemory) h = tt
+pub has-run : {P : Type 0} (plugin : PluginOf P) → ModulesArcsLaw → CallArcsLaw → (budget : ℕ) (ms : List LoadedModule) (arcs : Bool) (fixed : Bytes) (old new : List P) (answer : Result SuiteView SuiteError) → SuiteOf plugin ms arcs fixed budget old answer new → RanOf budget ms answer
+has-run plugin modules_agree calls_agree budget ms arcs fixed old new (Ok s) h = record {
+  imports = h.ran.imports;
+  tests = h.ran.tests;
+  lines = λ m l some. suite-lines plugin modules_agree calls_agree ms arcs fixed budget m l some old s new h.ran;
+}
+has-run plugin modules_agree calls_agree budget ms arcs fixed old new (Err NotImported) h = (h.not_imported refl).stops
+has-run plugin modules_agree calls_agree budget ms arcs fixed old new (Err NoMemory) h = tt

@@ -175,11 +175,11 @@ all-judged law traces budget (script ∷ others) well regular some s run =
 
 -- what is judged by code, of programs and trees of modules
 pub are-judged : (law : UnitsAreFaithful) (traces : TracesKept) (budget : ℕ) (ps : Programs) (trees : List Module) (ms : List LoadedModule) → AreMutable ps trees ms → 0 < length (modules_of ps) → (s : SuiteView) → HasRun budget ms s
-    → (t : Tried) → t.code ≡ map code_of (sources ps.modules.items trees) → t.names ≡ passed_names s.tests → t.budget ≡ budget
+    → AreRegular ms → (t : Tried) → t.code ≡ map code_of (sources ps.modules.items trees) → t.names ≡ passed_names s.tests → t.budget ≡ budget
     → (js : List JudgedView) → js ≡ judged_all t s.rows (sources ps.modules.items trees) → AreJudged budget ms js
-are-judged law traces budget ps trees ms are there s run t code names same js is =
+are-judged law traces budget ps trees ms are there s run regular t code names same js is =
     let from : sources ps.modules.items trees ≡ map of_module ms = sources-are ps.modules.items trees ms are.faithful are.paths are.bodies in
     let some : 0 < length ms = subst (λ n. 0 < n) (same-length (modules_of ps) ms are.faithful) there in
     let now : Tried = record { code = map code_of (map of_module ms); names = passed_names s.tests; budget = budget } in
     let tried-same : t ≡ now = λ i. record { code = (code ∙ ap (map code_of) from) i; names = names i; budget = same i } in
-    subst (AreJudged budget ms) (sym (is ∙ (λ i. judged_all (tried-same i) s.rows (from i)))) (all-judged law traces budget ms are.well_formed are.regular some s run)
+    subst (AreJudged budget ms) (sym (is ∙ (λ i. judged_all (tried-same i) s.rows (from i)))) (all-judged law traces budget ms are.well_formed regular some s run)

@@ -29,7 +29,7 @@ use Rattle.py_syntax.specs.declared.stmt.Module.{Module}
 use Rattle.py_trace.specs.Traces.{AreWellFormed}
 
 -- The programs are faithful code of the modules, on the same paths, and the trees are theirs. They
--- are as texts spell them.
+-- are well formed, in lines that a text may have.
 pub record AreMutable (ps : Programs) (trees : List Module) (ms : List LoadedModule)
     : Type 0 where
   pub faithful : AreFaithful (modules_of ps) ms
@@ -37,7 +37,6 @@ pub record AreMutable (ps : Programs) (trees : List Module) (ms : List LoadedMod
   pub well_formed : AreWellFormed ms
   pub lines : All HasTextLines ms
   pub bodies : map plain_module trees ≡ map (λ m. m.body) ms
-  pub regular : AreRegular ms
 
 -- The import finished. Of each test it is told how it ended, and the data have the lines that the
 -- import or a test reached.
@@ -74,8 +73,11 @@ abbrev pub answer_view : Result (Vec Judged Global) SuiteError → Result (List 
 answer_view (Ok js) = Ok js.items
 answer_view (Err e) = Err e
 
--- each mutant is judged, or the import didn't finish, or memory was wanting
+-- Either the import finished, and where the modules are as texts spell them each mutant is judged.
+-- Or it didn't finish, or memory was wanting.
 abbrev pub MutateOf : ℕ → List LoadedModule → Result (List Judged) SuiteError → Type 0
-MutateOf budget ms (Ok js) = AreJudged budget ms (map view_of js)
+MutateOf budget ms (Ok js) =
+    ((import_of ms budget).outcome ≡ finished)
+    × (AreRegular ms → AreJudged budget ms (map view_of js))
 MutateOf budget ms (Err NotImported) = (import_of ms budget).outcome ≢ finished
 MutateOf budget ms (Err NoMemory) = Unit {0}

@@ -25,8 +25,9 @@ use py_syntax::Module;
 use py_trace::traces_kept;
 use std::alloc::Global;
 
-/// What tests notice of a mutant: one fails that passed before or the import does, none does, or
-/// neither the import nor a test reaches its line.
+/// What tests notice of a mutant. Killed is one whose import doesn't finish, or of which a test
+/// doesn't pass that passed before. Survived is any other whose line the import or a test reached
+/// before, and unreached one whose line neither reached.
 #[derive(Drop)]
 pub enum MutantEnd {
     Killed,

@@ -9,6 +9,7 @@ ghost use Rattle.py_code.specs.Loaded.{modules_of, most_numbered};
 ghost use Rattle.py_meaning.specs.Modules.{LoadedModule};
 
 use crate::sets::possible_sets;
+use cov_arcs::{told_arcs_of_call, told_arcs_of_modules};
 use cov_event::ContextPlugin;
 use cov_predict::ArcSet;
 use cov_recorder::UnitName;
@@ -41,8 +42,8 @@ fn all_have_lines(units: &[Vec<UnitName>]) -> bool
     true
 }
 
-/// Runs the tests of the programs, and records lines, without plugins.
-fn run_lines(
+/// Runs the tests of the programs, and records their arcs, without plugins.
+fn run_recorded(
     alloc: Global,
     programs: &Programs,
     units: &[Vec<UnitName>],
@@ -55,17 +56,10 @@ fn run_lines(
     ensures { (ms : List LoadedModule) → AreTested programs.now (names_of units.now) sets.now ms
         → RanOf budget ms (plain_answer result) }
 {
+    told_arcs_of_modules();
+    told_arcs_of_call();
     let mut plugins: Vec<Box<dyn ContextPlugin>> = Vec::new(alloc);
-    suite(
-        alloc,
-        programs,
-        units,
-        sets,
-        "",
-        false,
-        budget,
-        &mut plugins,
-    )
+    suite(alloc, programs, units, sets, "", true, budget, &mut plugins)
 }
 
 /// The tests of the unchanged programs.
@@ -87,5 +81,5 @@ pub(crate) fn run_unchanged(
         // The units of texts do.
         return Err(SuiteError::NoMemory);
     }
-    run_lines(alloc, programs, names, sets.as_slice(), budget)
+    run_recorded(alloc, programs, names, sets.as_slice(), budget)
 }

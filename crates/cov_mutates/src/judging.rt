@@ -1,7 +1,5 @@
 //! The verdicts of the mutants of a loaded program.
-ghost use Rattle.std.specs.Prelude.{◌≡◌};
 ghost use Rattle.py_code.specs.declared.code.Programs.{Programs};
-ghost use Rattle.cov_calls.specs.Views.{RefusedBy};
 ghost use Rattle.cov_loaded_laws.specs.Loaded.{IsMeasurable};
 ghost use Rattle.cov_mutates.specs.Rests.{judging};
 ghost use Rattle.cov_mutates.specs.Views.{came_by, mutants_view};
@@ -12,11 +10,11 @@ ghost use Rattle.cov_step.specs.Calls.{Call, Answer, IsNoMemory, seen};
 ghost use Rattle.cov_step.specs.Testing.{came_or};
 ghost use Rattle.cov_streams.specs.Trials.{on_trial};
 ghost use Rattle.cov_verdicts.specs.Regular.{AreRegular};
-ghost use Rattle.cov_why.specs.Answers.{import_failed};
 
 use cov_mutate::{Judged, mutate};
 use cov_run::Loaded;
 use cov_suite::SuiteError;
+use cov_suites::import_failed;
 use cov_why::Why;
 use std::alloc::Global;
 
@@ -53,15 +51,5 @@ fn came(
         Ok(judged) => Ok(judged),
         Err(SuiteError::NotImported) => Err(import_failed(alloc, file)),
         Err(SuiteError::NoMemory) => Err(Why::NoMemory),
-    }
-}
-
-/// The import of this file ended early.
-fn import_failed(alloc: Global, file: &str) -> Why
-    ensures { RefusedBy (import_failed file.now) result }
-{
-    match String::from_str(alloc, file) {
-        Ok(file) => Why::ImportFailed(file),
-        Err(_) => Why::NoMemory,
     }
 }

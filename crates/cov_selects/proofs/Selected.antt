@@ -54,16 +54,16 @@ filtered test (x ∷ xs) = by_case (test (encode_utf8_all x)) refl (filtered tes
 
 -- ---- the answer
 
-pub all-selected : {P : Type 0} (plugin : PluginOf P) → ChosenInSuite plugin → (old new : List LoadedModule) (fixed : Bytes) (most : ℕ) (before after : List P) (run : SuiteRun)
-    → AreRegular old → SuiteOf plugin old false fixed most before (plain_answer (Ok run)) after
+pub all-selected : {P : Type 0} (plugin : PluginOf P) → ChosenInSuite plugin → (old new : List LoadedModule) (arcs : Bool) (fixed : Bytes) (most : ℕ) (before after : List P) (run : SuiteRun)
+    → AreRegular old → SuiteOf plugin old arcs fixed most before (plain_answer (Ok run)) after
     → (r : Result Selection SuiteError) → MatchResult r (IsSelected run old new) (λ e. e ≡ NoMemory) → SelectedAs most old new (came_of r)
-all-selected plugin law old new fixed most before after run regular suite (Ok s) h =
+all-selected plugin law old new arcs fixed most before after run regular suite (Ok s) h =
     subst (λ (count : ℕ). IsChosen most old new (map name_view s.names.items) count) (sym h.counted)
-    (subst (λ (names : List Text). IsChosen most old new names (length (tests_of new))) (sym h.names) (law old new fixed most before after run h.changed regular suite h.changes))
-all-selected plugin law old new fixed most before after run regular suite (Err NoMemory) h = tt
-all-selected plugin law old new fixed most before after run regular suite (Err NotImported) h = absurd cc
+    (subst (λ (names : List Text). IsChosen most old new names (length (tests_of new))) (sym h.names) (law old new arcs fixed most before after run h.changed regular suite h.changes))
+all-selected plugin law old new arcs fixed most before after run regular suite (Err NoMemory) h = tt
+all-selected plugin law old new arcs fixed most before after run regular suite (Err NotImported) h = absurd cc
 
-pub none-selected : {P : Type 0} (plugin : PluginOf P) (old new : List LoadedModule) (fixed : Bytes) (most : ℕ) (before after : List P) (e : SuiteError)
-    → SuiteOf plugin old false fixed most before (plain_answer (Err e)) after → SelectedAs most old new (came_of (Err e))
-none-selected plugin old new fixed most before after NotImported suite = (suite.not_imported refl).stops
-none-selected plugin old new fixed most before after NoMemory suite = tt
+pub none-selected : {P : Type 0} (plugin : PluginOf P) (old new : List LoadedModule) (arcs : Bool) (fixed : Bytes) (most : ℕ) (before after : List P) (e : SuiteError)
+    → SuiteOf plugin old arcs fixed most before (plain_answer (Err e)) after → SelectedAs most old new (came_of (Err e))
+none-selected plugin old new arcs fixed most before after NotImported suite = (suite.not_imported refl).stops
+none-selected plugin old new arcs fixed most before after NoMemory suite = tt

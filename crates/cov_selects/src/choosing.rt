@@ -23,7 +23,7 @@ pub(crate) struct Selection {
 }
 
 /// Runs the tests of the old version, and selects those of the new one that must run again. No
-/// plugin is asked, and the lines that the tests reached are kept.
+/// plugin is asked, and the arcs that the tests took are kept.
 pub(crate) fn chosen_tests(
     alloc: Global,
     most: u64,
@@ -39,7 +39,7 @@ pub(crate) fn chosen_tests(
 {
     chosen_in_suite::<Box<dyn ContextPlugin>>();
     let mut plugins: Vec<Box<dyn ContextPlugin>> = Vec::new(alloc);
-    match loaded_suite(alloc, before, "", false, most, &mut plugins) {
+    match loaded_suite(alloc, before, "", true, most, &mut plugins) {
         Ok(run) => selection_of(alloc, &run, before, after),
         Err(error) => Err(error),
     }

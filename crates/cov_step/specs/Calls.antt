@@ -103,7 +103,9 @@ pub record Selection : Type 0 where
   pub names : List Text
   pub count : ℕ
 
--- what tests notice of a mutant: one fails that passed before, none does, or its line isn't reached
+-- What tests notice of a mutant. It is killed where its import doesn't finish, or a test doesn't
+-- pass that passed before. Where neither the import nor a test reached its line, it is unreached.
+-- Any other survived.
 pub data Verdict : Type 0 where
   killed : Verdict
   survived : Verdict

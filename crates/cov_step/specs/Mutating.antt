@@ -34,13 +34,13 @@ abbrev pub mutant_lines : (number : ℕ) → List Judged → List ℕ
 mutant_lines number [] = []
 mutant_lines number (j ∷ js) = mutant_line number j ++ mutant_lines (suc number) js
 
--- a mutant that a test notices
+-- a mutant that the import or a test notices
 abbrev pub is_killed : Verdict → Bool
 is_killed killed = true
 is_killed survived = false
 is_killed unreached = false
 
--- one that is reached, and that none notices
+-- one that is reached, and that neither notices
 abbrev pub is_survivor : Verdict → Bool
 is_survivor killed = false
 is_survivor survived = true

@@ -16,8 +16,8 @@ pub fn quiet()
 {}
 
 /// A command but a script is refused before it runs or writes anything. What may come later are
-/// faults, want of memory, a save of a run or of a suite whose target isn't of schema 7, and a
-/// suite's failed import. It does nothing when it runs.
+/// faults, want of memory, a save of a run or of a suite whose target isn't of schema 7, and an
+/// import of tests that failed. It does nothing when it runs.
 pub fn refuses_early()
     ensures { EarlyLaw }
 {}

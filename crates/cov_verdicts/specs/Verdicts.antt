@@ -35,7 +35,8 @@ IsReached budget ms m l =
     ⊎ ((name : Text) × Contains (tests_of ms) name
     × HasReached ms (tested ms (test_of budget name)).items (path_of ms m) l)
 
--- with these modules in place of the others the import doesn't finish, or a test that passed doesn't
+-- With these modules in place of the others the import doesn't finish, or a test that passed before
+-- doesn't pass.
 abbrev pub IsNoticed : ℕ → List LoadedModule → List LoadedModule → Type 0
 IsNoticed budget ms changed =
     ((import_of changed budget).outcome ≢ finished)

@@ -9,5 +9,5 @@ pub returns : goal.returns
 returns c =
     let l = c.args.loaded.now in
     asks (came_by l.programs c.mutate.result) tt
-    (judged-so l c.requires.compiled c.args.budget c.mutate.result (c.mutate.ensures (loaded_modules l) (mutable l c.deref.result.now c.deref.ensures.value c.requires.compiled c.requires.measurable c.requires.regular)))
+    (judged-so l c.requires.compiled c.requires.regular c.args.budget c.mutate.result (c.mutate.ensures (loaded_modules l) (mutable l c.deref.result.now c.deref.ensures.value c.requires.compiled c.requires.measurable)))
     (on-nobody on_trial tt (c.came.ensures l.programs))

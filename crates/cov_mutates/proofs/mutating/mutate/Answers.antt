@@ -10,7 +10,7 @@ use Rattle.cov_step.specs.Mutating.{judged_in}
 use Rattle.cov_step.specs.Names.{or_else}
 use Rattle.cov_step.specs.Objects.{on_shelf, on_sink}
 use Rattle.cov_streams.specs.Trials.{on_trial}
-use Rattle.cov_mutates.proofs.LoadedTests.{number-or}
+use Rattle.cov_suites.proofs.Asked.{number-or}
 use Rattle.cov_mutates.proofs.mutating.mutate.Goals as goal
 
 pub returns-in_err-loaded : goal.returns-in_err-loaded
