@@ -13,6 +13,8 @@ mod faults;
 #[cfg(test)]
 mod foreign;
 #[cfg(test)]
+mod forty;
+#[cfg(test)]
 mod harness;
 #[cfg(test)]
 mod joins;

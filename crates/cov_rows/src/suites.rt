@@ -1,5 +1,6 @@
 //! Tests of a file, each from the state that the import left.
 
+use crate::forty;
 use crate::harness::{NONE, World, shelf_of};
 use crate::sessions::{Session, assert_session};
 use crate::sources::{CALC, TEST_CALC};
@@ -64,7 +65,7 @@ test_calls passed
 3 passed, 2 failed, 1 cut
 ";
 
-static ROWS: [Session; 7] = [
+static ROWS: [Session; 8] = [
     Session {
         title: "Suite of ordinary use",
         files: &[("calc.py", CALC), ("test_calc.py", TEST_CALC)],
@@ -129,6 +130,17 @@ TOTAL             12      4      4      2    62%
         commands: &[("suite --budget=60 t.py", 1, ENDED, "")],
     },
     Session {
+        title: "Forty tests",
+        files: &[
+            ("stock.py", forty::STOCK),
+            ("words.py", forty::WORDS),
+            ("shop.py", forty::SHOP),
+            ("tally.py", forty::TALLY),
+            ("t.py", forty::TESTS),
+        ],
+        commands: &[("suite --budget 2000 t.py", 1, forty::ENDED, "")],
+    },
+    Session {
         title: "A script of tests",
         files: &[
             ("t.py", THREE_TESTS),
@@ -189,8 +201,8 @@ fn tests_have_labels(rt: HostRuntime) -> Result<(), Fail> {
     Ok(())
 }
 
-/// The rows of the three tests, of which a plugin labels the first and then leaves.
-const LABELLED_BY_PLUGIN: &str = "\
+/// The rows of the three tests, of which a plugin labels the first and leaves in the second.
+const FIRST_BY_PLUGIN: &str = "\
 : t.py 1 1 1
 : t.py 2 2 1
 : t.py 5 5 1
@@ -202,18 +214,36 @@ test:__tests__.test_a: t.py 3 3 1
 test:__tests__.test_a: t.py 4 4 1
 ";
 
+/// The same where it labels two, and leaves in the third.
+const TWO_BY_PLUGIN: &str = "\
+: t.py 1 1 1
+: t.py 2 2 1
+: t.py 5 5 1
+: t.py 8 8 1
+__tests__.test_c: t.py 9 9 1
+test:__tests__.test_a: t.py 3 3 1
+test:__tests__.test_a: t.py 4 4 1
+test:__tests__.test_b: t.py 6 6 1
+test:__tests__.test_b: t.py 7 7 1
+";
+
+/// How many tests a plugin labels before it leaves, and the rows then.
+static LABELS: [(u64, &str); 2] = [(1, FIRST_BY_PLUGIN), (2, TWO_BY_PLUGIN)];
+
 #[test]
-fn plugin_leaves_after_a_test(rt: HostRuntime) -> Result<(), Fail> {
+fn plugin_leaves_in_a_test(rt: HostRuntime) -> Result<(), Fail> {
     let alloc = rt.alloc();
-    let files = shelf_of(alloc, &[("t.py", THREE_TESTS)])?;
-    let mut world = World::new(alloc, files, Vec::new(alloc), NONE)?;
-    let mut plugins: Vec<Box<dyn ContextPlugin>> = Vec::new(alloc);
-    plugins.push(Box::new(alloc, PrefixPlugin::new(alloc, "test", 1)?)?)?;
-    let found = world.answer_by(alloc, "suite t.py", "", &mut plugins, &mut Machine)?;
-    assert_eq!(&rt; found.status, 1);
-    assert_eq!(&rt; found.out.as_str(), TWO_OF_THREE);
-    let rows = world.rows(alloc, ".coverage")?;
-    assert_eq!(&rt; rows.as_str(), LABELLED_BY_PLUGIN);
-    assert_eq!(&rt; plugins.len(), 0, "the plugin left");
+    for (count, labelled) in &LABELS {
+        let files = shelf_of(alloc, &[("t.py", THREE_TESTS)])?;
+        let mut world = World::new(alloc, files, Vec::new(alloc), NONE)?;
+        let mut plugins: Vec<Box<dyn ContextPlugin>> = Vec::new(alloc);
+        plugins.push(Box::new(alloc, PrefixPlugin::new(alloc, "test", *count)?)?)?;
+        let found = world.answer_by(alloc, "suite t.py", "", &mut plugins, &mut Machine)?;
+        assert_eq!(&rt; found.status, 1);
+        assert_eq!(&rt; found.out.as_str(), TWO_OF_THREE);
+        let rows = world.rows(alloc, ".coverage")?;
+        assert_eq!(&rt; rows.as_str(), *labelled, "{count}");
+        assert_eq!(&rt; plugins.len(), 0, "the plugin left");
+    }
     Ok(())
 }

@@ -126,7 +126,8 @@ fn state(alloc: Global, world: &mut World) -> Result<String, Fail> {
 }
 
 /// Whether the call stops the session. The answer is the object's fault then, and shelf and vault
-/// are as before the command. A join that the vault stops may have saved and removed some data.
+/// are as before the command, and a prefix of its output is written. A join that the vault stops
+/// may have saved and removed some data.
 fn stops(
     rt: &impl Abort,
     alloc: Global,
@@ -145,6 +146,9 @@ fn stops(
                 let after = state(alloc, &mut world)?;
                 assert_eq!(rt; after.as_str(), before.as_str(), "{words}");
             }
+            let whole = sure.answer(alloc, *words, "ab\n")?;
+            let is_prefix = whole.out.as_str().starts_with(found.out.as_str());
+            assert!(rt; is_prefix, "a prefix is written: {words}");
             return Ok(true);
         }
         let _ = sure.answer(alloc, *words, "ab\n")?;
