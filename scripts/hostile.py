@@ -1,235 +1,221 @@
 #!/usr/bin/env python3
 """Feeds the built program what nobody wrote for it, and looks at how it ends.
 
-    scripts/hostile.py PROGRAM [COUNT [SEED [JOBS]]]
+    scripts/hostile.py PROGRAM [COUNT [SEED [JOBS [KIND..]]]]
 
-PROGRAM is the built program. COUNT (1,000) inputs of each kind are made from SEED (0): sources,
-settings, data files, words of a command, and files of commands. Each is given to the program in a
-process of its own with 1 GB of memory and 10 seconds, in a folder of its own; JOBS (1) at a time.
-It has to end by itself, with a status of the README and at most one line of its own on standard
-error, and to leave no file that the words don't name, but the `-wal` of a data file. The exit status is the number of inputs after
-which that wasn't so; each is printed, and kept in the folder that is printed last.
+PROGRAM is the built program. COUNT (1,000) inputs of each KIND are made from SEED (0) by broken.py:
+source, settings, data, words, and script, a file of commands. Each is given to the program in a
+process of its own with 1 GB of memory, 10 seconds of a processor and 600 in all; JOBS (1) run at a
+time. It has to end by itself, with a status of the README and, unless it is a script, at most one
+line of its own on standard error. A refusal has just one. It leaves no file that no word or setting
+names, but the `-wal` of a data file. The exit status is the number of inputs after which that
+wasn't so, at most 255. Each is printed, and its folder is kept in the one that is printed last.
+Inputs that want more than the memory are printed too, with status 70; they don't count.
 """
 import collections
-import concurrent.futures
 import os
 import random
 import resource
 import shutil
-import sqlite3
+import signal
 import subprocess
 import sys
 import tempfile
+import time
 
+import broken
+
+KINDS = ("source", "settings", "data", "words", "script")
 STATUSES = {0, 1, 2, 70, 74, 75}
-SOURCE = '''import calc
-x = [1, (2, "b"), {"k": None}]
-def f(a, b=2):
-    global y
-    for k in range(a):
-        while k:
-            k = k - 1
-            if k == b and not x[0] < 3:
-                continue
-        else:
-            y = f"{a}+{x[1]}"
-    try:
-        return calc.g(a) // b
-    except (ZeroDivisionError, KeyError) as e:
-        return str(e)
-    finally:
-        pass
-match x:
-    case [1, 2] | None:
-        print(1)
-    case [a, (b, "c")] if a:
-        print(f(3))
-    case _:
-        assert f(1, 0) != -9223372036854775807, "no"
-'''
-CALC = "def g(n):\n    return n + 1\n"
-SETTINGS = '''[tool.coverage.run]
-branch = true
-context = "c"
-data_file = ".coverage"
-dynamic_context = "test_function"
-budget = 10000
-[tool.coverage.report]
-fail_under = 50
-show_missing = true
-omit = ["old/*", "**/x?.py"]
-exclude_also = ["raise Not.*", "if 0:"]
-partial_branches = ["while [01]:"]
-[tool.coverage.paths]
-source = ["src", "/home/*/src"]
-'''
-PIECES = [
-    b"(", b")", b"[", b"]", b"{", b"}", b":", b",", b"\n", b"\r\n", b"\t", b" " * 9, b'"', b"'", b'"""',
-    b'f"{', b"}}", b"\\", b"#", b"\x00", b"\xff", b"\xc3\xa9", b"\xf0\x9f\x90\x8d", b"=", b"==", b"<=",
-    b"9" * 40, b"9223372036854775808", b"1.5", b"_" * 3000, b"not ", b"lambda", b"while 1:", b"def f():",
-    b"try:", b"else:", b"elif 1:", b"case _:", b"return", b"break", b"global x", b"*", b"**", b"//", b"0x1F",
-    b"import m", b"from a import b", b"-", b"True", b"(" * 300, b"[" * 5000, b"if 1:\n " * 70,
+MEMORY, SECONDS, IN_ALL = 1 << 30, 10, 600
+BUDGET = "--budget=10000"
+OF_SOURCES = [
+    ["arcs", BUDGET, "a.py"], ["arcs", BUDGET, "a.py"], ["arcs", "a.py"], ["run", "--branch", BUDGET, "a.py"], ["annotate", "a.py"],
+    ["report", "-m"], ["suite", BUDGET, "a.py"], ["select", BUDGET, "a.py", "b.py"], ["mutate", BUDGET, "b.py"], ["run", "--hook=a.py:f", "b.py"],
 ]
-WORDS = [
-    "arcs", "run", "combine", "report", "json", "lcov", "annotate", "erase", "script", "make", "suite",
-    "select", "mutate", "--branch", "--append", "-a", "--context", "--context=c", "--budget", "--budget=9",
-    "--hook", "--hook=h.py:f", "--data-file", "--data-file=d", "--rcfile", "--rcfile=p.toml", "--keep",
-    "-m", "--show-missing", "--fail-under", "--fail-under=50", "-o", "-", "a.py", "m.txt", "0", "7", "16000",
-    "99999999999", "-1", "--", "", " ", "\n", "é", "--budget=", "--x", "..", "/", "./a.py", "no.py", "#",
+OF_SETTINGS = [["report"], ["lcov"], ["combine", "-a", "--keep", ".coverage"], ["run", "a.py"], ["erase"], ["annotate", "a.py"], ["json", "-o", "-"]]
+OF_DATA = [
+    ["report", "-m"], ["json", "-o", "-"], ["combine", "--append", "--keep", ".coverage.1"], ["run", "--append", "--branch", "a.py"],
+    ["run", "a.py"], ["annotate", "a.py"], ["combine", "--keep", ".coverage"], ["erase"],
 ]
-SCHEMA = [
-    "CREATE TABLE coverage_schema (version integer)",
-    "CREATE TABLE meta (key text, value text, unique (key))",
-    "CREATE TABLE file (id integer primary key, path text, unique (path))",
-    "CREATE TABLE context (id integer primary key, context text, unique (context))",
-    "CREATE TABLE line_bits (file_id integer, context_id integer, numbits blob, unique (file_id, context_id))",
-    "CREATE TABLE arc (file_id integer, context_id integer, fromno integer, tono integer)",
-    "CREATE TABLE tracer (file_id integer primary key, tracer text)",
-    "CREATE TABLE hits (file_id integer, context_id integer, fromno integer, tono integer, count integer)",
-]
-ROWS = [
-    "INSERT INTO coverage_schema VALUES (%s)", "INSERT INTO meta VALUES ('has_arcs', %s)",
-    "INSERT INTO file VALUES (%s, 'a.py')", "INSERT INTO context VALUES (%s, '')",
-    "INSERT INTO line_bits VALUES (1, %s, %s)", "INSERT INTO arc VALUES (1, %s, %s, %s)",
-    "INSERT INTO tracer VALUES (%s, 'x')", "INSERT INTO hits VALUES (1, 1, %s, %s, %s)",
-]
-VALUES = [
-    "1", "1", "1", "7", "7", "'1'", "'0'", "NULL", "0", "-1", "2", "70000", "4294967296", "1.5", "x'02'",
-    "x''", "zeroblob(8193)", "'text'", "-9223372036854775808", "9223372036854775807",
-]
+OUT = os.O_WRONLY | os.O_CREAT | os.O_TRUNC
 
 
-def broken(chance, text):
-    """A text with a few of its bytes cut, swapped, turned, or put in."""
-    data = bytearray(text)
-    for _ in range(chance.randrange(1, 5)):
-        at = chance.randrange(len(data) + 1)
-        to = min(len(data), at + chance.choice((1, 1, 4, 30)))
-        way = chance.randrange(5)
-        if way == 0:
-            del data[at:to]
-        elif way == 1 and to < len(data):
-            data[at:to] = data[at:to][::-1]
-        elif way == 2 and at < len(data):
-            data[at] = chance.randrange(256)
-        elif way == 3:
-            data[at:at] = data[at:to] * chance.choice((1, 2, 40))
-        else:
-            data[at:at] = chance.choice(PIECES)
-    return bytes(data)
+class Place:
+    """A folder in memory where inputs are put, one after the other: the program runs in `up/in`."""
+
+    def __init__(self, program, kept):
+        self.program, self.kept = program, kept
+        self.top = tempfile.mkdtemp(prefix="hostile-", dir="/dev/shm" if os.path.isdir("/dev/shm") else None)
+        self.folder = f"{self.top}/up/in"
+        os.makedirs(self.folder)
+        os.chdir(self.folder)
+        self.fresh({"a.py": broken.SOURCE.encode(), "calc.py": broken.CALC.encode()})
+        self.run(["run", "--branch", "--budget=9999", "a.py"])
+        self.good = self.read(".coverage")
+
+    def read(self, name):
+        with open(name, "rb") as it:
+            return it.read()
+
+    def fresh(self, files):
+        """Makes the folder anew with these files."""
+        for name in os.listdir("."):
+            if os.path.isdir(name):
+                shutil.rmtree(name)
+            else:
+                os.unlink(name)
+        for name in os.listdir(".."):
+            if name != "in":
+                os.unlink(f"../{name}")
+        for name, data in files.items():
+            if "/" in name and not os.path.isdir(os.path.dirname(name)):
+                os.mkdir(os.path.dirname(name))
+            with open(name, "wb", buffering=0) as it:
+                it.write(data)
+
+    def run(self, words):
+        """How the program ends: its status, or the signal as a negative number; None without an end."""
+        pid = os.posix_spawn(self.program, [self.program, *words], {}, file_actions=[
+            (os.POSIX_SPAWN_OPEN, 0, "/dev/null", os.O_RDONLY, 0),
+            (os.POSIX_SPAWN_OPEN, 1, f"{self.top}/out", OUT, 0o600), (os.POSIX_SPAWN_OPEN, 2, f"{self.top}/err", OUT, 0o600)])
+        late = []
+
+        def stop(*_):
+            late.append(True)
+            os.kill(pid, signal.SIGKILL)
+        signal.signal(signal.SIGALRM, stop)
+        signal.setitimer(signal.ITIMER_REAL, IN_ALL)
+        try:
+            resource.prlimit(pid, resource.RLIMIT_CPU, (SECONDS, SECONDS))
+        except ProcessLookupError:
+            pass
+        status, self.used = os.wait4(pid, 0)[1:]
+        signal.setitimer(signal.ITIMER_REAL, 0)
+        code = os.waitstatus_to_exitcode(status)
+        return None if late or code in (-signal.SIGKILL, -signal.SIGXCPU) and self.used.ru_utime + self.used.ru_stime > SECONDS - 1 else code
+
+    def keep(self, name, words):
+        shutil.copytree(f"{self.top}/up", f"{self.kept}/{name}", symlinks=True)
+        for what in ("out", "err"):
+            shutil.copy(f"{self.top}/{what}", f"{self.kept}/{name}.{what}")
+        with open(f"{self.kept}/{name}.words", "w", errors="surrogateescape") as it:
+            it.write("\n".join(words) + "\n")
 
 
-def base(chance, folder):
-    """A data file with tables or rows that aren't those of schema 7."""
-    name = f"{folder}/.coverage"
-    with sqlite3.connect(name) as it:
-        for text in SCHEMA:
-            if chance.random() < 0.97:
-                it.execute(text if chance.random() < 0.97 else text.replace("integer", "text", 1))
-        for text in ROWS * chance.randrange(1, 4):
-            given = tuple(chance.choice(VALUES) for _ in range(text.count("%s")))
-            try:
-                it.execute(text % given)
-            except sqlite3.Error:
-                pass
-    it.close()
-    if chance.random() < 0.5:
-        data = bytearray(open(name, "rb").read())
-        if chance.random() < 0.3:
-            del data[chance.randrange(len(data)):]
-        for _ in range(chance.randrange(1, 4)):
-            if data:
-                data[chance.randrange(min(len(data), chance.choice((100, len(data)))))] = chance.randrange(256)
-        open(name, "wb").write(data)
-
-
-def words_of(chance):
-    return [chance.choice(WORDS) for _ in range(chance.randrange(7))]
-
-
-def put(folder, name, data):
-    with open(f"{folder}/{name}", "wb") as it:
-        it.write(data)
-
-
-def made(kind, chance, folder, good):
-    """Writes the files of an input, and gives the words."""
-    put(folder, "a.py", SOURCE.encode())
-    put(folder, "calc.py", CALC.encode())
+def input_of(kind, chance, number, bases, good):
+    """The files of an input, and its words."""
+    files = {"a.py": broken.SOURCE.encode(), "calc.py": broken.CALC.encode(), ".coverage": good}
     if kind == "source":
-        put(folder, chance.choice(("a.py", "calc.py")), broken(chance, SOURCE.encode()))
-        return ["arcs", "--budget=10000", "a.py"]
-    if kind == "settings":
-        put(folder, "pyproject.toml", broken(chance, SETTINGS.encode()))
-        put(folder, ".coverage", good)
-        return [chance.choice(("report", "lcov", "combine", "run")), *(["a.py"] if chance.random() < 0.2 else [])]
-    if kind == "data":
-        base(chance, folder)
-        return chance.choice((["report", "-m"], ["json", "-o", "-"], ["combine", "--append", "--keep"], ["run", "--append", "--branch", "a.py"]))
-    if kind == "words":
-        put(folder, ".coverage", good)
-        return words_of(chance)
-    lines = ["run --branch --budget=9999 a.py", "report -m", *(" ".join(words_of(chance)) for _ in range(4))]
-    chance.shuffle(lines)
-    put(folder, "m.txt", broken(chance, "\n".join(lines).encode()))
-    put(folder, ".coverage", good)
-    return ["script", "m.txt"]
-
-
-def limit():
-    resource.setrlimit(resource.RLIMIT_AS, (1 << 30, 1 << 30))
-    resource.setrlimit(resource.RLIMIT_CORE, (0, 0))
-
-
-def tried(program, top, good, kind, seed, number):
-    """What is wrong with how the program ended on this input, or None; and its status."""
-    chance = random.Random(f"{seed} {kind} {number}")
-    folder = tempfile.mkdtemp(prefix=f"{kind}-{number}-", dir=top)
-    words = made(kind, chance, folder, good)
-    try:
-        it = subprocess.run([program, *words], cwd=folder, capture_output=True, stdin=subprocess.DEVNULL, timeout=10, preexec_fn=limit)
-    except subprocess.TimeoutExpired:
-        return f"{kind} {number}: no end after 10 seconds: {words}: {folder}", None
-    except ValueError:
-        shutil.rmtree(folder)
-        return None, "no words"
-    own = [line for line in it.stderr.split(b"\n") if line.startswith(b"coverage: ")]
-    wrong = None
-    if it.returncode not in STATUSES:
-        wrong = f"status {it.returncode}"
-    elif len(own) > 1 and kind != "script":
-        wrong = f"{len(own)} lines on standard error"
+        words = chance.choice(OF_SOURCES)
+        name = chance.choice(("a.py", "a.py", "calc.py"))
+        if "b.py" in words:
+            files["b.py"] = chance.choice(broken.SOURCES).encode()
+        files[name] = broken.source(chance)
+        if "report" not in words:
+            del files[".coverage"]
+    elif kind == "settings":
+        files["pyproject.toml"] = broken.settings(chance)
+        words = chance.choice(OF_SETTINGS)
+    elif kind == "data":
+        words = chance.choice(OF_DATA) if number >= len(good) else OF_DATA[number % 4]
+        files[".coverage.1" if ".coverage.1" in words else ".coverage"] = bases.at(number, chance)
     else:
-        known = {"a.py", "calc.py", "pyproject.toml", ".coverage", "m.txt", "coverage.json", "coverage.lcov", *words}
-        known |= {word.split("=", 1)[1] for word in words if "=" in word}
-        known |= {f"{name}-wal" for name in known}
-        if kind != "script" and kind != "settings" and not {it.removeprefix("./") for it in os.listdir(folder)} <= known:
-            wrong = f"other files: {os.listdir(folder)}"
-    if wrong:
-        return f"{kind} {number}: {wrong}: {words}: {folder}", it.returncode
-    shutil.rmtree(folder)
-    return None, it.returncode
+        files["b.py"] = files["sub/b.py"] = broken.OTHER.encode()
+        files["m.txt"] = b"run a.py\nreport\n"
+        words = broken.words(chance)
+        if kind == "script":
+            files["m.txt"] = broken.script(chance)
+            words = ["script", "m.txt"]
+    return files, words
+
+
+def wrong_in(kind, files, words, code, place):
+    """What is wrong with how the program ended, if something is."""
+    told = place.read(f"{place.top}/err")
+    exits = any(b"exit" in it or b"Exit" in it for name, it in files.items() if name.endswith(".py"))
+    if code is None:
+        return "no end in its time"
+    if code < 0 or code not in STATUSES and not exits:
+        return f"status {code}"
+    own = [line for line in told.split(b"\n") if line.startswith(b"coverage: ")]
+    if told and not told.endswith(b"\n"):
+        return "a line without its end on standard error"
+    if kind != "script" and len(own) > 1:
+        return f"{len(own)} lines on standard error"
+    if kind != "script" and not exits and code in (70, 74, 75) and not own:
+        return f"status {code} without a line"
+    if own and told.startswith(b"coverage: ") and kind not in ("words", "script") and told.count(b"\n") > 1:
+        return "more than a line on standard error"
+    given = b"\n".join([*(word.encode(errors="surrogateescape") for word in words), *(it for name, it in files.items() if name in ("m.txt", "pyproject.toml"))])
+    for name in (*os.listdir("."), *os.listdir("..")):
+        plain = name.removesuffix("-wal").encode(errors="surrogateescape")
+        if plain.decode(errors="replace") not in {*files, "in", "sub", ".coverage", "coverage.json", "coverage.lcov"} and plain not in given:
+            return f"another file: {name!r}"
+    for name, data in files.items():
+        if name.endswith(".py") and name.encode() not in given and (not os.path.isfile(name) or place.read(name) != data):
+            return f"a changed source: {name}"
+    return None
+
+
+def work(program, kept, kind, count, seed, first, jobs, answer):
+    """Tries every input of a kind whose number is `first` modulo `jobs`, and writes what came of them."""
+    resource.setrlimit(resource.RLIMIT_CORE, (0, 0))
+    place = Place(program, kept)
+    resource.setrlimit(resource.RLIMIT_AS, (MEMORY, MEMORY))
+    resource.setrlimit(resource.RLIMIT_FSIZE, (1 << 26, 1 << 26))
+    signal.signal(signal.SIGXFSZ, signal.SIG_IGN)
+    bases = broken.Bases(place.good)
+    seen, most, longest = collections.Counter(), 0, 0.0
+    for number in range(first, count, jobs):
+        chance = random.Random(f"{seed} {kind} {number}")
+        files, words = input_of(kind, chance, number, bases, place.good)
+        place.fresh(files)
+        try:
+            code = place.run(words)
+        except ValueError:
+            seen["no words"] += 1
+            continue
+        seen[code] += 1
+        most, longest = max(most, place.used.ru_maxrss), max(longest, place.used.ru_utime + place.used.ru_stime)
+        wrong = wrong_in(kind, files, words, code, place)
+        if wrong or code == 70:
+            seen["failed"] += bool(wrong)
+            place.fresh(files)
+            place.keep(f"{kind}-{number}", words)
+            print("FAILED" if wrong else "70", f"{kind} {number}: {wrong}: {str(words)[:300]}", flush=True)
+    shutil.rmtree(place.top)
+    answer.write(f"{dict(seen)!r}\n{most}\n{longest}\n")
+    answer.close()
 
 
 def main():
     program = os.path.abspath(sys.argv[1])
-    count, seed, jobs = (int(it) for it in [*sys.argv[2:], *("1000", "0", "1")[len(sys.argv) - 2:]])
-    top = tempfile.mkdtemp()
-    put(top, "a.py", SOURCE.encode())
-    put(top, "calc.py", CALC.encode())
-    subprocess.run([program, "run", "--branch", "--budget=9999", "a.py"], cwd=top, capture_output=True, check=False)
-    good = open(f"{top}/.coverage", "rb").read()
+    count, seed, jobs = (int(it) for it in [*sys.argv[2:5], *("1000", "0", "1")[len(sys.argv[:5]) - 2:]])
+    kept = tempfile.mkdtemp()
     failed = 0
-    for kind in ("source", "settings", "data", "words", "script"):
-        seen = collections.Counter()
-        with concurrent.futures.ThreadPoolExecutor(jobs) as pool:
-            for wrong, status in pool.map(lambda at: tried(program, top, good, kind, seed, at), range(count)):
-                seen[status] += 1
-                if wrong:
-                    failed += 1
-                    print("FAILED", wrong, flush=True)
-        print(f"{kind}: {count} inputs, by status {dict(sorted(seen.items(), key=str))}", flush=True)
-    print(f"{failed} failed; {top}")
+    for kind in sys.argv[5:] or KINDS:
+        begun, pipes = time.perf_counter(), []
+        for first in range(jobs):
+            back, forth = os.pipe()
+            if not os.fork():
+                os.close(back)
+                work(program, kept, kind, count, seed, first, jobs, os.fdopen(forth, "w"))
+                os._exit(0)
+            os.close(forth)
+            pipes.append(os.fdopen(back))
+        seen, most, longest = collections.Counter(), 0, 0.0
+        for it in pipes:
+            lines = it.read().splitlines()
+            seen.update(eval(lines[0]))
+            most, longest = max(most, int(lines[1])), max(longest, float(lines[2]))
+        for _ in range(jobs):
+            os.wait()
+        failed += seen.pop("failed", 0)
+        used = resource.getrusage(resource.RUSAGE_CHILDREN)
+        print(f"{kind}: {count} inputs, by status {dict(sorted(seen.items(), key=str))}; at most {most // 1024} MB and "
+              f"{longest:.2f} s; {time.perf_counter() - begun:.0f} s, of a processor {used.ru_utime + used.ru_stime:.0f} so far", flush=True)
+    print(f"{failed} failed; {kept}")
     return min(failed, 255)
 
 

@@ -6,7 +6,8 @@
 PROGRAM is the built program. Each row is a folder of its own with its files, and commands in order,
 each with the status, the output and the standard error that it has to give. Rows with an object that
 fails, a plugin or an engine that isn't true need objects of their own and stand in cov_rows, and so
-do numbers that no command tells. The exit status is the number of lines that begin with FAILED.
+do numbers that no command tells. Those of `suite`, `select` and `mutate` stand in rows_tests.py. The
+exit status is the number of lines that begin with FAILED.
 """
 import contextlib
 import os
@@ -14,6 +15,8 @@ import sqlite3
 import subprocess
 import sys
 import tempfile
+
+from rows_tests import CALC, ROWS as OF_TESTS, TEST
 
 A = "x = 1\nif x:\n    print(x)\nelse:\n    print(0)\n"
 B = "x = 0\nif x:\n    print(x)\n"
@@ -24,16 +27,6 @@ except KeyError:
 except ZeroDivisionError:
     print(2)
 print(3)
-"""
-CALC = "def div(a, b):\n    if b == 0:\n        return None\n    return a // b\n\ndef unused(x):\n    return x\n"
-TEST = """import calc
-
-def test_div():
-    assert calc.div(6, 3) == 2
-
-if __name__ == "__main__":
-    test_div()
-    print("ok")
 """
 NESTED = """for k in range(3):
     for j in range(2):
@@ -75,238 +68,26 @@ def label(module, function):
         raise ValueError("third")
     return "h" + str(count)
 """
-THREE = """n = [0]
-def test_a():
-    n[0] = n[0] + 1
-    assert n[0] == 1
-def test_b():
-    n[0] = n[0] + 1
-    assert n[0] == 1
-def test_c():
-    assert n[0] == 1, "no"
+TRIED = """n = 0
+def f():
+    for k in (0, 1):
+        try:
+            try:
+                n // k
+            finally:
+                print("f", k)
+        except ZeroDivisionError:
+            continue
+        else:
+            return k
+print(f())
 """
-TRIES = "try:\n    import extra\nexcept ImportError:\n    pass\ndef test_a():\n    pass\ndef test_b():\n    pass\n"
-IMPORTS = "import m\ndef test_a():\n    pass\ndef test_b():\n    pass\n"
-DOC = 'def test_a():\n    "told"\n    pass\ndef test_b():\n    pass\n'
-MUTANTS = "1 calc.py:2 == -> != killed\n2 calc.py:2 0 -> 1 survived\n3 calc.py:4 // -> * killed\n"
-# Forty tests over four modules: functions rebound and defined twice, tests that end in every way, and
-# globals, lists and dicts that they change. CPython ends each alike, in a process of its own.
-FORTY = {
-    "stock.py": """items = {"nut": 3, "bolt": 5}
-log = []
-def take(name, count=1):
-    if items[name] < count:
-        raise ValueError(f"{name}: {items[name]} left")
-    items[name] -= count
-    log.append(name)
-    return items[name]
-def put(name, count=1):
-    items[name] = items.get(name, 0) + count
-    return items[name]
-def total():
-    sum = 0
-    for name in items:
-        sum += items[name]
-    return sum
-""",
-    "words.py": """count = 0
-def title(text):
-    global count
-    count += 1
-    return text + "!"
-def join(parts, by=", "):
-    return by.join(parts)
-def kind(value):
-    match value:
-        case 0 | 1:
-            return "small"
-        case [first, second]:
-            return "list"
-        case _:
-            return "other"
-""",
-    "shop.py": """import stock
-open_ = True
-def buy(name, count=1):
-    global open_
-    if not open_:
-        raise RuntimeError("closed")
-    left = stock.take(name, count)
-    if left == 0:
-        open_ = False
-    return left
-def close():
-    global open_
-    open_ = False
-""",
-    "tally.py": """import words
-import shop
-seen = []
-def see(name):
-    seen.append(words.title(name))
-    return len(seen)
-def spin():
-    while True:
-        pass
-def twice(f, x):
-    return f(f(x))
-""",
-    "t.py": """import sys
-import stock
-import words
-import shop
-import tally
-board = [0]
-level = 1
-def helper(x):
-    return 2 * x
-def test_01():
-    assert stock.take("nut") == 2
-def test_02():
-    assert stock.take("nut", 3) == 0
-    assert stock.items["nut"] == 0
-def test_03():
-    stock.take("nut", 4)
-def test_04():
-    assert stock.items == {"nut": 3, "bolt": 5}
-def test_05():
-    stock.take("screw")
-def test_06():
-    assert stock.put("screw", 2) == 2
-    assert stock.total() == 10
-def test_07():
-    assert stock.total() == 8
-def test_08():
-    stock.log.append("x")
-    assert len(stock.log) == 1
-def test_09():
-    assert stock.log == [], "the log is empty"
-def test_10():
-    assert words.title("a") == "a!"
-    assert words.count == 1
-def test_11():
-    words.title("a")
-    words.title("b")
-    assert words.count == 2
-def test_12():
-    assert words.count == 1, f"{words.count} titles"
-def test_13():
-    assert words.join(["a", "b"]) == "a, b"
-def test_14():
-    words.join([1])
-def test_15():
-    assert words.kind(1) == "small"
-    assert words.kind([1, 2]) == "list"
-def test_16():
-    assert words.kind(7) == "small"
-def test_17():
-    assert shop.buy("nut", 3) == 0
-    shop.buy("bolt")
-def test_18():
-    assert shop.buy("bolt") == 4
-def test_19():
-    shop.close()
-    assert not shop.open_
-def test_20():
-    assert shop.open_
-def test_21():
-    sys.exit(2)
-def test_22():
-    sys.exit()
-def test_23():
-    tally.spin()
-def test_24():
-    assert tally.see("x") == 1
-def test_25():
-    assert tally.see("x") == 1
-    assert tally.see("y") == 2
-    assert tally.seen == ["x!", "y!"]
-def test_26():
-    assert tally.twice(helper, 3) == 12
-def test_27():
-    local = {}
-    local["k"] = [1]
-    local["k"].append(2)
-    assert local == {"k": [1, 2]}
-def test_28():
-    board.append(1)
-    assert board == [0, 1]
-def test_29():
-    board.append(2)
-    assert board == [0, 2]
-def test_30():
-    assert len(board) == 1
-def test_31():
-    global level
-    level = level + 1
-    assert level == 2
-def test_32():
-    assert level == 1
-def test_33():
-    global helper
-    helper = None
-    helper(1)
-def test_34():
-    assert helper(4) == 8
-def test_35():
-    print("nothing of this is printed")
-def test_36():
-    raise KeyError("gone")
-def test_37():
-    missing
-def test_38():
-    assert 1 // 0 == 0
-def test_39():
-    x = y
-    y = 1
-def test_wants(a):
-    pass
-def test_01():
-    assert stock.take("bolt", 5) == 0
-test_02 = helper
-""",
-}
-FORTY_ENDED = """test_01 passed
-test_02 failed TypeError: wrong number of arguments
-test_03 failed ValueError: nut: 3 left
-test_04 passed
-test_05 failed KeyError: 'screw'
-test_06 passed
-test_07 passed
-test_08 passed
-test_09 passed
-test_10 passed
-test_11 passed
-test_12 failed AssertionError: 0 titles
-test_13 passed
-test_14 failed TypeError: bad argument
-test_15 passed
-test_16 failed AssertionError
-test_17 failed RuntimeError: closed
-test_18 passed
-test_19 passed
-test_20 passed
-test_21 failed SystemExit: 2
-test_22 failed SystemExit
-test_23 cut
-test_24 passed
-test_25 passed
-test_26 passed
-test_27 passed
-test_28 passed
-test_29 passed
-test_30 passed
-test_31 passed
-test_32 passed
-test_33 failed TypeError: not callable
-test_34 passed
-test_35 passed
-test_36 failed KeyError: 'gone'
-test_37 failed NameError: name 'missing' is not defined
-test_38 failed ZeroDivisionError: division by zero
-test_39 failed UnboundLocalError: local variable 'y' is not set
-test_wants failed TypeError: wrong number of arguments
-24 passed, 15 failed, 1 cut
+DEFAULTS = """fs = []
+for i in range(2):
+    def f(a, b=i):
+        return a + b
+    fs.append(f)
+print(fs[0](10), fs[1](10), f(1, 2))
 """
 CALLS = "def test_a():\n    pass\ndef test_b():\n    pass\ntest_a()\ntest_b()\ntest_a()\ntest_b()\n"
 
@@ -419,6 +200,29 @@ ROWS = [
         ("arcs r.py", 1, "", "coverage: r.py:1: ReturnOutside\n"), ("run n.py", 0, "True\n", ""), ("run p.py", 0, "", ""),
         ("run q.py", 1, "", "coverage: limit Expressions passed: 201\n"), ("run l.py", 1, "", "coverage: limit FileBytes passed: 1048577\n"),
     ]),
+    ("Many statements in one line", {"a.py": "x=1" + ";x=1" * 262143}, [
+        ("arcs --budget=262145 a.py", 0, arcs("a.py", "-1 1", "1 -1"), ""),
+        ("arcs --budget=262144 a.py", 75, arcs("a.py", "-1 1"), "coverage: budget of 262144 steps is spent\n"),
+    ]),
+    ("Deep parentheses", {"a.py": "(" * 500000 + "0" + ")" * 500000}, [("arcs a.py", 1, "", "coverage: limit Expressions passed: 201\n")]),
+    ("Deep suites", {f"{depth}.py": "".join(" " * at + "if 1:\n" for at in range(depth)) + " " * depth + "x = 1\n" for depth in (64, 65)}, [
+        ("run 64.py", 0, "", ""), ("run 65.py", 1, "", "coverage: limit Suites passed: 65\n")]),
+    ("Many lines", {"a.py": "\n" * 65535, "b.py": "\n" * 65536}, [
+        ("run a.py", 0, "", ""), ("run b.py", 1, "", "coverage: limit Lines passed: 65536\n")]),
+    ("Bytes that are no text", {"a.py": b"x\n\xff"}, [("arcs a.py", 1, "", "coverage: a.py:2: BadCharacter\n")]),
+    ("Indentation and open ends", {"a.py": "if 1:\n    x = 1\n  y = 2\n", "b.py": "x = (1", "c.py": 'x = "a', "d.py": "x = 1\nx y\n", "e.py": 'f"{x',
+                                   "f.py": 'f"{x!r}"', "g.py": 'f"{}"', "h.py": "def f(a=1, b): pass\n"}, [
+        (f"arcs {name}.py", 1, "", f"coverage: {name}.py:{told}\n") for name, told in (
+            ("a", "3: BadIndent"), ("b", "1: OpenBracket"), ("c", "1: OpenString"), ("d", "2: Unexpected"), ("e", "1: OpenString"),
+            ("f", "1: BadCharacter"), ("g", "1: Unexpected"), ("h", "1: Unexpected"))]),
+    ("Unset name", {"a.py": "x = 1 + y\n"}, [("arcs a.py", 1, arcs("a.py", "-1 1", "1 -1"), "NameError: name 'y' is not defined\n")]),
+    ("Two `try` in a loop", {"a.py": TRIED}, [
+        ("arcs --budget=18 a.py", 0, "f 0\nf 1\n1\n" + arcs("a.py", "-2 3", "-1 1", "1 2", "2 13", "3 4", "4 5", "5 6", "6 8", "8 9", "8 12", "9 10", "10 3", "12 -2", "13 -1"), ""),
+        ("arcs --budget=17 a.py", 75, None, "coverage: budget of 17 steps is spent\n"),
+    ]),
+    ("Defaults in a loop", {"a.py": DEFAULTS}, [
+        ("arcs --budget=16 a.py", 0, "10 11 3\n" + arcs("a.py", "-3 4", "-1 1", "1 2", "2 3", "2 6", "3 5", "4 -3", "5 2", "6 -1"), "")]),
+    ("Fields and braces", {"a.py": 'x = 3\nprint(f"{x}+{x + 1}={{{x * 2 + 1}}}")\nd = {"k": [1]}\nprint("<" f"{d[\'k\']}" ">")\n'}, [("run a.py", 0, "3+4={7}\n<[1]>\n", "")]),
     ("Values", {"a.py": 'print(-7 // 2, -7 % 2, 7 // -2, 7 % -2)\nprint(1 < 2 < 3, 0 or "a", [] and 1)\n'
                         'print([1, "b", None], (1,), {"k": 2})\nprint("abcd"[1:3], "abcd"[-1])\n9223372036854775807 + 1\n'}, [
         ("run a.py", 1, "-4 1 -4 -1\nTrue a []\n[1, 'b', None] (1,) {'k': 2}\nbc d\n", "OverflowError: integer too large\n")]),
@@ -444,30 +248,7 @@ ROWS = [
                             "test_calc.py       6      2      2      1    62%",
                             "TOTAL             12      4      4      2    62%"), ""),
     ]),
-    ("Three tests", {"t.py": THREE}, [
-        ("suite t.py", 1, "test_a passed\ntest_b passed\ntest_c failed AssertionError: no\n"
-                          "2 passed, 1 failed, 0 cut\n", "")]),
-    ("Import that raises", {"i.py": 'raise ValueError("no")\n'}, [
-        ("suite i.py", 1, "", "coverage: import of i.py ended early\n"),
-        ("report", 1, "", "coverage: no data .coverage\n"),
-    ]),
-    ("Forty tests", FORTY, [("suite --budget 2000 t.py", 1, FORTY_ENDED, "")]),
-    *[(title, {"old/calc.py": CALC, "old/test_calc.py": TEST, "new/calc.py": new, "new/test_calc.py": TEST}, [
-        ("select old/test_calc.py new/test_calc.py", 0, out, "")]) for title, new, out in (
-            ("Change that no test reaches", CALC.replace("return x", "return x + 1"), "0 of 1 selected\n"),
-            ("Change that a test reaches", CALC.replace("a // b", "b // a"), "test_div\n1 of 1 selected\n"),
-            ("Empty line in front", "\n" + CALC, "test_div\n1 of 1 selected\n"))],
-    ("Other modules", {"old/t.py": TRIES, "new/t.py": TRIES, "new/extra.py": "x = 1\n"}, [
-        ("select old/t.py new/t.py", 0, "test_a\ntest_b\n2 of 2 selected\n", "")]),
-    ("Module without a mark", {"old/t.py": IMPORTS, "old/m.py": "", "new/t.py": IMPORTS, "new/m.py": "x = 1\n"}, [
-        ("select old/t.py new/t.py", 0, "test_a\ntest_b\n2 of 2 selected\n", "")]),
-    ("Docstring that goes", {"old.py": DOC, "new.py": DOC.replace('"told"', "print(2)")}, [
-        ("select old.py new.py", 0, "test_a\n1 of 2 selected\n", "")]),
-    ("Mutants of ordinary use", {"calc.py": CALC, "test_calc.py": TEST}, [
-        ("mutate test_calc.py", 0, MUTANTS + "2 killed, 1 survived, 0 unreached\n", "")]),
-    ("Unreached mutants", {"calc.py": CALC.replace("return x", "return x + 1"), "test_calc.py": TEST}, [
-        ("mutate test_calc.py", 0, MUTANTS + "4 calc.py:7 + -> - unreached\n5 calc.py:7 1 -> 2 unreached\n"
-                                             "2 killed, 1 survived, 2 unreached\n", "")]),
+    *OF_TESTS,
 ]
 failed = 0
 
@@ -486,8 +267,8 @@ def wrong_in(program, files, commands, folder):
     """What the first command gave that isn't as wanted, if one did."""
     for name, text in files.items():
         os.makedirs(os.path.dirname(os.path.join(folder, name)), exist_ok=True)
-        with open(os.path.join(folder, name), "w", newline="") as it:
-            it.write(text)
+        with open(os.path.join(folder, name), "wb") as it:
+            it.write(text.encode() if isinstance(text, str) else text)
     for words, status, out, err in commands:
         done = call(program, words, folder)
         for what, wanted, found in (("status", status, done.returncode), ("output", out, done.stdout), ("err", err, done.stderr)):
@@ -559,6 +340,49 @@ def foreign(program, folder):
     return None
 
 
+def blobs(program, folder):
+    """Line data with a blob that is longer than 65,535 lines, whose last byte is 1 and then 0."""
+    with open(os.path.join(folder, "a.py"), "w") as it:
+        it.write(A)
+    call(program, "run a.py", folder)
+    for last, wanted in ((1, (1, "", "coverage: bad data .coverage: row 0\n")), (0, (0, None, ""))):
+        with opened(os.path.join(folder, ".coverage")) as base:
+            base.execute("delete from hits")
+            base.execute("update line_bits set numbits = ?", (bytes(8192) + bytes([last]),))
+        done = call(program, "report", folder)
+        if (done.returncode, done.stderr) != (wanted[0], wanted[2]):
+            return f"last byte {last}: status {done.returncode}, {done.stderr!r}"
+    wanted = table(27, "Name    Stmts   Miss  Cover", "a.py        4      4     0%", "TOTAL       4      4     0%")
+    return None if done.stdout == wanted else f"output {done.stdout!r}"
+
+
+def spoilt(program, folder):
+    """A data file without a column, one that is cut short, and a text; each stays as it is."""
+    with open(os.path.join(folder, "a.py"), "w") as it:
+        it.write(A)
+    call(program, "run --branch a.py", folder)
+    name = os.path.join(folder, ".coverage")
+    with open(name, "rb") as it:
+        whole = it.read()
+    with opened(name) as base:
+        base.execute("drop table arc")
+        base.execute("create table arc (file_id integer, context_id integer, fromno integer)")
+    with open(name, "rb") as it:
+        narrow = it.read()
+    for data, status, told in ((narrow, 1, "bad data .coverage: not schema 7"), (whole[:len(whole) - 100], 74, "data store failed"),
+                               (whole[:4096], 74, "data store failed"), (whole[:50], 74, "data store failed"), (A.encode() * 50, 74, "data store failed")):
+        for words in ("report", "run --branch a.py", "run -a --branch a.py", "combine -a --keep .coverage"):
+            with open(name, "wb") as it:
+                it.write(data)
+            done = call(program, words, folder)
+            if (done.returncode, done.stderr) != (status, f"coverage: {told}\n"):
+                return f"{len(data)} bytes, `{words}`: status {done.returncode}, {done.stderr!r}"
+            with open(name, "rb") as it:
+                if it.read() != data:
+                    return f"{len(data)} bytes, `{words}`: the file isn't as before"
+    return None
+
+
 def combine(program, folder):
     """Three data of one source under three names, which the settings join; then once more."""
     with open(os.path.join(folder, "pyproject.toml"), "w") as it:
@@ -620,10 +444,11 @@ def main(program):
     for title, files, commands in ROWS:
         with tempfile.TemporaryDirectory() as folder:
             tell(title, wrong_in(program, files, commands, folder))
-    for title, of in (("What is put and kept", put), ("Foreign data", foreign), ("Combine", combine), ("Hook", hooked)):
+    for title, of in (("What is put and kept", put), ("Foreign data", foreign), ("Combine", combine), ("Hook", hooked),
+                      ("Blob beyond the last line", blobs), ("Missing column, and a file that is cut short", spoilt)):
         with tempfile.TemporaryDirectory() as folder:
             tell(title, of(program, folder))
-    print(f"{len(ROWS) + 4} rows, {failed} failed")
+    print(f"{len(ROWS) + 6} rows, {failed} failed")
     return failed
 
 
