@@ -58,6 +58,7 @@ ROWS = [
     row("No right to write", SAVED + "printf '{}' > coverage.json", ("report", None, None), ("run a.py", 74, STORE), ("erase", 74, STORE), ("json", 74, None), ("arcs a.py", 0, "")),
     row("No right to the folder", "mkdir no; cp a.py no; chmod 700 no", ("arcs no/a.py", 74, FILES), ("run --data-file=no/d a.py", 74, STORE), ("json -o no/x --data-file=no/d", 74, STORE)),
     row("A full disk, no data", "cat /dev/zero > fill", ("run a.py", 74, STORE), ("arcs a.py", 0, "")),
+    row("A full disk, a report behind a link", SAVED + "touch .coverage-wal; echo old > y; ln -s y x.json; cat /dev/zero > fill", ("json -o x.json", 74, FILES)),
     row("A full disk, data", SAVED + "cat /dev/zero > fill", ("run --branch a.py", 74, STORE), ("run -a --branch a.py", 74, STORE), ("json", 74, STORE), ("report", 74, STORE), ("erase", 0, "")),
 ]
 # Streams: the title, what the shell does with the program's, the status, and standard error where it is known.

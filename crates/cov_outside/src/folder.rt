@@ -113,13 +113,39 @@ fn read_file(rt: &HostRuntime, alloc: Global, path: &PathBuf, most: usize) -> io
 }
 
 /// Writes a file beside the path and then gives it the path's name, so that no half of it ever has
-/// that name. What is no plain file, as a device or a link, is written to as it is.
+/// that name. A link to a file stays, and its file is written so. What is no file and leads to none,
+/// as a device, is written to as it is.
 fn write_file(rt: &HostRuntime, alloc: Global, path: &PathBuf, bytes: &[u8]) -> io::Result<()> {
-    if let Ok(found) = fs::symlink_metadata(rt, path.as_path())
-        && !found.is_file()
-    {
-        return fs::write(rt, path.as_path(), bytes);
+    match fs::symlink_metadata(rt, path.as_path()) {
+        Err(_) => replace_file(rt, alloc, path, bytes),
+        Ok(found) if found.is_file() => replace_file(rt, alloc, path, bytes),
+        Ok(found) if found.is_symlink() => {
+            let target = fs::canonicalize(rt, path.as_path());
+            write_target(rt, alloc, path, target, bytes)
+        }
+        Ok(_) => fs::write(rt, path.as_path(), bytes),
     }
+}
+
+/// Writes the file that a link leads to, or through the link where that is no file.
+fn write_target(
+    rt: &HostRuntime,
+    alloc: Global,
+    link: &PathBuf,
+    target: io::Result<PathBuf>,
+    bytes: &[u8],
+) -> io::Result<()> {
+    if let Ok(file) = target
+        && let Ok(found) = fs::metadata(rt, file.as_path())
+        && found.is_file()
+    {
+        return replace_file(rt, alloc, &file, bytes);
+    }
+    fs::write(rt, link.as_path(), bytes)
+}
+
+/// Writes a file under a name beside its own, which it then gets.
+fn replace_file(rt: &HostRuntime, alloc: Global, path: &PathBuf, bytes: &[u8]) -> io::Result<()> {
     let draft = path.with_added_extension(alloc, "cov-part")?;
     let moved = write_and_rename(rt, &draft, path, bytes);
     if moved.is_err() {
