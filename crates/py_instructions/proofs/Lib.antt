@@ -5,3 +5,5 @@ mod Nested
 mod Leading
 mod Made
 mod Acting
+mod AtOnce
+mod Replaced

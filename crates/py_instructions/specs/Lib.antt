@@ -2,3 +2,4 @@ pub mod Operands
 pub mod Locals
 pub mod View
 pub mod Reaching
+pub mod AtOnce

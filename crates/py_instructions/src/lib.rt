@@ -5,6 +5,8 @@
 //! is left to do of it.
 #![tactic(auto)]
 
+mod ahead;
+mod at_once;
 mod calls;
 mod catching;
 mod comparing;

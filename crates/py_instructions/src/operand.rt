@@ -1,6 +1,7 @@
 // What stands on the operands of a frame.
-ghost use Rattle.std.specs.Prelude.{◌≡◌, IfOk};
-ghost use Rattle.py_value.specs.Plain.{none_value};
+ghost use Rattle.std.specs.Prelude.{◌≡◌, IfOk, IfSome};
+ghost use Rattle.py_value.specs.Plain.{none_value, bool_value, int_value};
+ghost use Rattle.py_code.specs.Configurations.{of_value};
 ghost use Rattle.py_value.specs.View.{plain, plain_raised};
 ghost use Rattle.py_code.specs.Configurations.{on};
 ghost use Rattle.py_code.specs.Operands.{value_in, callee_in, operand_of, walk_in, way_in, exception_of_way, exception_in};
@@ -82,6 +83,46 @@ fn is_builtin(value: &Value) -> bool
     }
 }
 
+/// The whole number that a value is; a bool is none.
+fn number_of(value: &Value) -> Option<i64>
+    ensures { IfSome result (λ n. plain value.now ≡ int_value n) }
+{
+    match value {
+        Value::Int(n) => Some(*n),
+        Value::None
+        | Value::Bool(_)
+        | Value::Str(_)
+        | Value::Tuple(_)
+        | Value::List(_)
+        | Value::Dict(_)
+        | Value::Func(_, _)
+        | Value::Module(_)
+        | Value::Kind(_)
+        | Value::Exc(_, _)
+        | Value::Builtin(_) => None,
+    }
+}
+
+/// True or False, where a value is one of them.
+fn truth_of(value: &Value) -> Option<bool>
+    ensures { IfSome result (λ b. plain value.now ≡ bool_value b) }
+{
+    match value {
+        Value::Bool(holds) => Some(*holds),
+        Value::None
+        | Value::Int(_)
+        | Value::Str(_)
+        | Value::Tuple(_)
+        | Value::List(_)
+        | Value::Dict(_)
+        | Value::Func(_, _)
+        | Value::Module(_)
+        | Value::Kind(_)
+        | Value::Exc(_, _)
+        | Value::Builtin(_) => None,
+    }
+}
+
 impl Way {
     /// An equal way out.
     pub fn copy(&self, alloc: Global) -> Result<Way, NoMemory>
@@ -131,6 +172,30 @@ impl Operand {
             Operand::Method(_, _) => true,
             Operand::Walk(_, _, _) => false,
             Operand::Way(_) => false,
+        }
+    }
+
+    /// The whole number that it is.
+    pub fn number(&self) -> Option<i64>
+        ensures { IfSome result (λ n. plain_operand self.now ≡ of_value (int_value n)) }
+    {
+        match self {
+            Operand::Value(value) => number_of(value),
+            Operand::Method(_, _) => None,
+            Operand::Walk(_, _, _) => None,
+            Operand::Way(_) => None,
+        }
+    }
+
+    /// The truth, True or False, that it is.
+    pub fn holds(&self) -> Option<bool>
+        ensures { IfSome result (λ b. plain_operand self.now ≡ of_value (bool_value b)) }
+    {
+        match self {
+            Operand::Value(value) => truth_of(value),
+            Operand::Method(_, _) => None,
+            Operand::Walk(_, _, _) => None,
+            Operand::Way(_) => None,
         }
     }
 

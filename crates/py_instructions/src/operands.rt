@@ -1,11 +1,12 @@
 // The operands of a frame.
-ghost use Rattle.std.specs.Prelude.{◌≡◌, ◌∷◌, ◌++◌, List, None, Some, length, map, take, drop, remove, reverse, nat_le, slice_get, IfOk, OnOk, MatchOption};
+ghost use Rattle.std.specs.Prelude.{◌≡◌, ◌∷◌, ◌++◌, List, None, Some, length, map, take, drop, remove, reverse, nat_le, slice_get, IfOk, IfSome, OnOk, MatchOption};
 ghost use Rattle.py_value.specs.HeapView.{plain_heap};
+ghost use Rattle.py_value.specs.Plain.{bool_value, int_value};
 ghost use Rattle.py_value.specs.View.{plain, plains};
 ghost use Rattle.py_builtins.specs.Making.{sliced};
 ghost use Rattle.py_code.specs.declared.instr.Instr.TheVariants.{Slice};
 ghost use Rattle.py_code.specs.Changes.{halted, heap_of};
-ghost use Rattle.py_code.specs.Configurations.{Configuration, of_value, stuck};
+ghost use Rattle.py_code.specs.Configurations.{Configuration, Operand as PlainOperand, of_value, stuck};
 ghost use Rattle.py_code.specs.Machine.{act, makes};
 ghost use Rattle.py_code.specs.Operands.{value_in};
 ghost use Rattle.py_code.specs.Slots.{by_slots};
@@ -27,6 +28,36 @@ impl Stack<Operand> {
             (λ x. slice_get (plain_operands self.now) below ≡ Some (plain_operand x.now)) }
     {
         self.get(below)
+    }
+
+    /// The whole number that stands so many below the top, if it is one.
+    pub fn number(&self, below: usize) -> Option<i64>
+        ensures { IfSome result (λ n. slice_get (plain_operands self.now) below
+            ≡ Some (of_value (int_value n))) }
+    {
+        match self.operand(below) {
+            None => None,
+            Some(operand) => operand.number(),
+        }
+    }
+
+    /// The topmost operand, where it is True or False.
+    pub fn truth_on_top(&self) -> Option<bool>
+        ensures { IfSome result (λ b. slice_get (plain_operands self.now) 0
+            ≡ Some (of_value (bool_value b))) }
+    {
+        match self.operand(0) {
+            None => None,
+            Some(top) => top.holds(),
+        }
+    }
+
+    /// Puts a value in place of the two topmost operands, where there are two.
+    pub fn put_for_two(&mut self, value: Value)
+        ensures { (y x : PlainOperand) (rest : List PlainOperand) → plain_operands self.old ≡ y ∷ x ∷ rest
+            → plain_operands self.new ≡ of_value (plain value) ∷ rest }
+    {
+        self.replace_two(Operand::Value(value));
     }
 
     /// Takes the operand so many below the top one away.

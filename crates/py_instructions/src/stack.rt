@@ -1,5 +1,5 @@
 // A list whose front is at the end of a vector.
-ghost use Rattle.std.specs.Prelude.{◌≡◌, ◌∷◌, ◌++◌, ◌-◌, ◌≤◌, [], None, Some, length, take, drop, remove, slice_get, OnOk, OnErr, MatchOption};
+ghost use Rattle.std.specs.Prelude.{◌≡◌, ◌∷◌, ◌++◌, ◌-◌, ◌≤◌, List, [], None, Some, length, take, drop, remove, slice_get, OnOk, OnErr, MatchOption};
 
 use py_value::NoMemory;
 use std::alloc::Global;
@@ -92,5 +92,18 @@ impl<T: Drop> Stack<T> {
         let place = self.items.len() - below;
         self.items.insert(place, x)?;
         Ok(())
+    }
+
+    /// Puts something in place of the two topmost, where there are two.
+    pub fn replace_two(&mut self, x: T)
+        ensures { (z y : T) (rest : List T) → self.old ≡ z ∷ y ∷ rest → self.new ≡ x ∷ rest }
+    {
+        let count = self.items.len();
+        if count >= 2 {
+            self.items[count - 2] = x;
+            self.items.truncate(count - 1);
+        } else {
+            drop(x);
+        }
     }
 }

@@ -2,6 +2,7 @@ mod Hearing
 mod Following
 mod Grows
 mod Joins
+mod Ahead
 mod Throws
 mod Performs
 mod Begins

@@ -1,9 +1,10 @@
-use Rattle.std.proofs.Common.{false, arith}
+use Rattle.std.proofs.Common.{false, [], arith}
 use Rattle.py_code.specs.Loaded.{modules_of}
 use Rattle.py_machine.proofs.Errs.{if_err, if_fault}
 use Rattle.py_machine.proofs.Begins.{begun, starts}
 use Rattle.py_machine.proofs.TracerCalls.{calls_none, calls_then}
 use Rattle.py_machine.proofs.Hearing.{over_then}
+use Rattle.py_machine.proofs.Ahead.{stands_ahead, near_ahead, reached_ahead}
 use Rattle.py_machine.proofs.Joins.{further_at, last_at, nearer_at, stands_at}
 use Rattle.py_machine.proofs.StopsRuns.{stops_on}
 use Rattle.py_machine.proofs.runs.go_on.Goals as goal
@@ -20,30 +21,37 @@ loop-ending-init g c = record {
 pub returns-in-Some-clause-ok : goal.returns-in-Some-clause-ok
 returns-in-Some-clause-ok g c =
     let st = c.loop-ending.invariant.stand in
+    let stand = stands_ahead (modules_of c.args.programs.now) st.0 st.1 c.loop-ending.m c.run_ahead.new.self c.loop-ending.store st.2 c.run_ahead.ensures in
+    let reached = reached_ahead (modules_of c.args.programs.now) st.0 st.1 c.loop-ending.m c.run_ahead.new.self c.loop-ending.store st.2 c.run_ahead.ensures _ _ _ g.I.Source.tells (g.I.Source.left c.args.input.now) (g.I.Source.left c.loop-ending.input) false c.loop-ending.at_end c.loop-ending.invariant.reached in
     last_at (modules_of c.args.programs.now) st.0 st.1 g.T.Tracer.moves c.args.tracer.now c.loop-ending.tracer c.step.new.tracer
     g.O.Sink.tells (g.O.Sink.contents c.args.out.now) (g.O.Sink.contents c.loop-ending.out) (g.O.Sink.contents c.step.new.out) g.I.Source.tells (g.I.Source.left c.args.input.now) (g.I.Source.left c.loop-ending.input) (g.I.Source.left c.step.new.input) false c.loop-ending.at_end c.step.new.at_end
-    c.args.m.now c.loop-ending.m c.step.new.m c.args.store.now c.loop-ending.store c.step.new.store st.2 c.in_ok-ending.field-0 c.in-Some.ending c.in-Some.is c.loop-ending.invariant.reached c.in_ok-ending.ensures.ok
+    c.args.m.now c.run_ahead.new.self c.step.new.m c.args.store.now c.loop-ending.store c.step.new.store stand c.in_ok-ending.field-0 c.in-Some.ending c.in-Some.is reached c.in_ok-ending.ensures.ok
 
 pub loop-ending-smaller : goal.loop-ending-smaller
 loop-ending-smaller g c =
     let st = c.loop-ending.invariant.stand in
-    nearer_at (modules_of c.args.programs.now) st.0 st.1 g.T.Tracer.moves c.args.tracer.now c.loop-ending.tracer c.step.new.tracer
+    let stand = stands_ahead (modules_of c.args.programs.now) st.0 st.1 c.loop-ending.m c.run_ahead.new.self c.loop-ending.store st.2 c.run_ahead.ensures in
+    let far = near_ahead (modules_of c.args.programs.now) st.0 st.1 c.loop-ending.m c.run_ahead.new.self c.loop-ending.store st.2 c.run_ahead.ensures (record { input = []; out = []; events = [] }) in
+    let near = nearer_at (modules_of c.args.programs.now) st.0 st.1 g.T.Tracer.moves c.args.tracer.now c.loop-ending.tracer c.step.new.tracer
     g.O.Sink.tells (g.O.Sink.contents c.args.out.now) (g.O.Sink.contents c.loop-ending.out) (g.O.Sink.contents c.step.new.out) g.I.Source.tells (g.I.Source.left c.args.input.now) (g.I.Source.left c.loop-ending.input) (g.I.Source.left c.step.new.input) false c.loop-ending.at_end c.step.new.at_end
-    c.args.m.now c.loop-ending.m c.step.new.m c.args.store.now c.loop-ending.store c.step.new.store st.2 c.in_ok-ending.field-0 c.in_default.is c.in_ok-ending.ensures.ok
+    c.args.m.now c.run_ahead.new.self c.step.new.m c.args.store.now c.loop-ending.store c.step.new.store stand c.in_ok-ending.field-0 c.in_default.is c.in_ok-ending.ensures.ok in
+    omega (arith, far, near)
 
 pub loop-ending-preserved : goal.loop-ending-preserved
 loop-ending-preserved g c =
     let st = c.loop-ending.invariant.stand in
+    let stand = stands_ahead (modules_of c.args.programs.now) st.0 st.1 c.loop-ending.m c.run_ahead.new.self c.loop-ending.store st.2 c.run_ahead.ensures in
+    let reached = reached_ahead (modules_of c.args.programs.now) st.0 st.1 c.loop-ending.m c.run_ahead.new.self c.loop-ending.store st.2 c.run_ahead.ensures _ _ _ g.I.Source.tells (g.I.Source.left c.args.input.now) (g.I.Source.left c.loop-ending.input) false c.loop-ending.at_end c.loop-ending.invariant.reached in
     record {
       reached = further_at (modules_of c.args.programs.now) st.0 st.1 g.T.Tracer.moves c.args.tracer.now c.loop-ending.tracer c.step.new.tracer
           g.O.Sink.tells (g.O.Sink.contents c.args.out.now) (g.O.Sink.contents c.loop-ending.out) (g.O.Sink.contents c.step.new.out) g.I.Source.tells (g.I.Source.left c.args.input.now) (g.I.Source.left c.loop-ending.input) (g.I.Source.left c.step.new.input) false c.loop-ending.at_end c.step.new.at_end
-          c.args.m.now c.loop-ending.m c.step.new.m c.args.store.now c.loop-ending.store c.step.new.store st.2 c.in_ok-ending.field-0 c.in_default.is c.loop-ending.invariant.reached c.in_ok-ending.ensures.ok;
+          c.args.m.now c.run_ahead.new.self c.step.new.m c.args.store.now c.loop-ending.store c.step.new.store stand c.in_ok-ending.field-0 c.in_default.is reached c.in_ok-ending.ensures.ok;
       stand = (
         st.0,
         st.1,
         stands_at (modules_of c.args.programs.now) st.0 st.1 g.T.Tracer.moves c.args.tracer.now c.loop-ending.tracer c.step.new.tracer
             g.O.Sink.tells (g.O.Sink.contents c.args.out.now) (g.O.Sink.contents c.loop-ending.out) (g.O.Sink.contents c.step.new.out) g.I.Source.tells (g.I.Source.left c.args.input.now) (g.I.Source.left c.loop-ending.input) (g.I.Source.left c.step.new.input) false c.loop-ending.at_end c.step.new.at_end
-            c.args.m.now c.loop-ending.m c.step.new.m c.args.store.now c.loop-ending.store c.step.new.store st.2 c.in_ok-ending.field-0 c.in_default.is c.in_ok-ending.ensures.ok,
+            c.args.m.now c.run_ahead.new.self c.step.new.m c.args.store.now c.loop-ending.store c.step.new.store stand c.in_ok-ending.field-0 c.in_default.is c.in_ok-ending.ensures.ok,
       );
       calls = calls_then g.T.Tracer.moves g.T.Tracer.refused c.args.tracer.now c.loop-ending.tracer c.step.new.tracer c.loop-ending.invariant.calls c.in_ok-ending.ensures.calls;
       writes = omega (arith, c.loop-ending.invariant.writes, c.in_ok-ending.ensures.writes);
@@ -53,8 +61,10 @@ loop-ending-preserved g c =
 pub returns-in_err-ending-clause-given_up : goal.returns-in_err-ending-clause-given_up
 returns-in_err-ending-clause-given_up g c =
     let st = c.loop-ending.invariant.stand in
+    let stand = stands_ahead (modules_of c.args.programs.now) st.0 st.1 c.loop-ending.m c.run_ahead.new.self c.loop-ending.store st.2 c.run_ahead.ensures in
+    let reached = reached_ahead (modules_of c.args.programs.now) st.0 st.1 c.loop-ending.m c.run_ahead.new.self c.loop-ending.store st.2 c.run_ahead.ensures _ _ _ g.I.Source.tells (g.I.Source.left c.args.input.now) (g.I.Source.left c.loop-ending.input) false c.loop-ending.at_end c.loop-ending.invariant.reached in
     if_fault _ _ _ c.from_residual.ensures.1 (stops_on g.T.Tracer.moves g.T.Tracer.refused _ c.args.tracer.now c.loop-ending.tracer c.step.new.tracer g.O.Sink.tells (g.O.Sink.contents c.args.out.now) (g.O.Sink.contents c.loop-ending.out) (g.O.Sink.contents c.step.new.out) g.I.Source.tells (g.I.Source.left c.args.input.now) (g.I.Source.left c.loop-ending.input) (g.I.Source.left c.step.new.input) false c.loop-ending.at_end
-    (modules_of c.args.programs.now) st.0 st.1 c.args.m.now c.loop-ending.m c.args.store.now c.loop-ending.store st.2 c.loop-ending.invariant.reached c.in_err-ending.ensures.given_up)
+    (modules_of c.args.programs.now) st.0 st.1 c.args.m.now c.run_ahead.new.self c.args.store.now c.loop-ending.store stand reached c.in_err-ending.ensures.given_up)
 
 pub returns-in_err-ending-clause-calls : goal.returns-in_err-ending-clause-calls
 returns-in_err-ending-clause-calls g c = calls_then g.T.Tracer.moves g.T.Tracer.refused c.args.tracer.now c.loop-ending.tracer c.step.new.tracer c.loop-ending.invariant.calls c.in_err-ending.ensures.calls

@@ -1,0 +1,34 @@
+// Instructions one after another, as long as they are done at once.
+ghost use Rattle.py_code.specs.Loaded.{modules_of};
+ghost use Rattle.py_instructions.specs.AtOnce.{HasGoneOn};
+ghost use Rattle.py_instructions.specs.View.{Outside, seen};
+
+use crate::frame::State;
+use py_code::Programs;
+use py_store::{Store, unit_in};
+
+/// How many instructions are done at once before others are looked at.
+const MOST_AT_ONCE: u32 = 64;
+
+impl State {
+    /// Does the next instructions, as long as they are done at once. They tell nothing, take no step
+    /// and leave the store.
+    pub fn run_ahead(&mut self, store: &Store, programs: &Programs)
+        ensures { (o : Outside)
+            → HasGoneOn (modules_of programs.now) (seen self.old store.now o)
+            (seen self.new store.now o) }
+    {
+        let Some(unit) = unit_in(programs, self.top.code) else {
+            return;
+        };
+        'ahead: for _ in 0..MOST_AT_ONCE {
+            if self.top.place >= unit.instrs.len() {
+                return;
+            }
+            let instr = unit.instrs[self.top.place];
+            if !self.do_at_once(instr, unit, store) {
+                return;
+            }
+        }
+    }
+}
