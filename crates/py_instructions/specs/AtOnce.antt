@@ -7,8 +7,8 @@ use Rattle.std.specs.Prelude.{◌≡◌, ℕ, zero, suc, Bool, true, false, if�
 use Rattle.py_value.specs.Plain.{PlainValue}
 use Rattle.py_code.specs.declared.instr.Instr.{Instr}
 use Rattle.py_code.specs.declared.unit.Unit.{Unit as RawUnit}
-use Rattle.py_code.specs.Configurations.{Operand, Configuration, Next, of_value}
-use Rattle.py_code.specs.Machine.{falls, jumps, move}
+use Rattle.py_code.specs.Configurations.{Configuration, of_value}
+use Rattle.py_code.specs.Machine.{falls, move}
 use Rattle.py_code.specs.Run.{Goes}
 use Rattle.py_code.specs.Slots.{by_slots}
 use Rattle.py_code.specs.Units.{Module}
@@ -18,18 +18,18 @@ use Rattle.py_instructions.specs.declared.turn.Turn.TheVariants.{Goes as TurnGoe
 use Rattle.py_instructions.specs.View.{Slots, ActsIn, DoesAlone}
 use Rattle.py_store.specs.declared.store.Store.{Store}
 
--- the machine did all of an instruction, in the same code, and goes on; or it did nothing
+-- all of an instruction was done, in the same code, and the machine goes on; or nothing was done
 abbrev pub DoneAtOnce : Bool → RawUnit → Instr → State → Store → State → Type 0
 DoneAtOnce true u i m s m2 = (m2.top.code ≡ m.top.code) × ActsIn u i m s m2 s TurnGoes
 DoneAtOnce false u i m s m2 = m2 ≡ m
 
--- the same of putting a value on top
+-- a value was put on top and the machine goes on; or nothing was done
 abbrev pub PushedAtOnce : Bool → PlainValue → State → State → Type 0
 PushedAtOnce true v m m2 =
     (m2.top.code ≡ m.top.code) × DoesAlone (λ xs. falls (of_value v ∷ xs)) m m2 TurnGoes
 PushedAtOnce false v m m2 = m2 ≡ m
 
--- the same of taking the top operand away, and then a jump or none
+-- the top operand was taken away, and the machine jumps or goes on; or nothing was done
 abbrev pub WentOn : Bool → Bool → ℕ → State → State → Type 0
 WentOn true jump to m m2 =
     (x : RawOperand) × (xs : List RawOperand) × (m.top.operands ≡ x ∷ xs)
@@ -47,6 +47,6 @@ GoesOn ms zero c d = d ≡ c
 GoesOn ms (suc n) c d =
     (e : Configuration Slots) × (move (by_slots ms) ms c ≡ Goes e) × GoesOn ms n e d
 
--- some such moves do
+-- some moves lead so from one configuration to another
 abbrev pub HasGoneOn : List Module → Configuration Slots → Configuration Slots → Type 0
 HasGoneOn ms c d = (n : ℕ) × GoesOn ms n c d

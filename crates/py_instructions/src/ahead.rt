@@ -7,12 +7,12 @@ use crate::frame::State;
 use py_code::Programs;
 use py_store::{Store, unit_in};
 
-/// How many instructions are done at once before others are looked at.
+/// The most instructions of one call, so that it ends where jumps lead in a circle.
 const MOST_AT_ONCE: u32 = 64;
 
 impl State {
-    /// Does the next instructions, as long as they are done at once. They tell nothing, take no step
-    /// and leave the store.
+    /// Does some of the next instructions, or none, while each is done at once. They tell nothing,
+    /// take no step and leave the store. How many it does, no clause says.
     pub fn run_ahead(&mut self, store: &Store, programs: &Programs)
         ensures { (o : Outside)
             → HasGoneOn (modules_of programs.now) (seen self.old store.now o)

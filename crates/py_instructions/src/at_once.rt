@@ -1,6 +1,7 @@
-// Instructions that are done at once: on whole numbers, truths and None, without memory.
+// Instructions that are done at once, of names and constants, whole numbers, and jumps. Each may do
+// nothing, and no clause says when.
 ghost use Rattle.std.specs.Prelude.{◌≡◌, ◌<◌, IfSome, Ok};
-ghost use Rattle.py_code.specs.declared.instr.Instr.TheVariants.{Constant as Const, LoadLocal, LoadGlobal, Binary, InPlace, Compare, Goto, IfFalse, IfTrue};
+ghost use Rattle.py_code.specs.declared.instr.Instr.TheVariants.{Constant as Const, Pop, LoadLocal, StoreLocal, LoadGlobal, Binary, InPlace, Compare, Goto, IfFalse, IfTrue};
 ghost use Rattle.py_code.specs.Operands.{asked};
 ghost use Rattle.py_value.specs.Compared.{compared};
 ghost use Rattle.py_value.specs.Numbers.{arithmetic};
@@ -13,9 +14,9 @@ use crate::numbered::numbered;
 use crate::operand::Operand;
 use py_code::{Constant, Instr, Question, Unit};
 use py_store::Store;
-use py_value::{BinOp, Value};
+use py_value::{BinOp, Value, calculate};
 
-/// A copy of a value that holds no others and is no text.
+/// A copy of a value, if it is None, a bool or a whole number.
 fn small(value: &Value) -> Option<Value>
     ensures { IfSome result (λ copy. plain copy ≡ plain value.now) }
 {
@@ -35,19 +36,17 @@ fn small(value: &Value) -> Option<Value>
     }
 }
 
-/// A sum, a difference or a product of whole numbers, if it is one.
+/// What an operator gives of two whole numbers, where it gives one.
 fn calculated(op: BinOp, left: i64, right: i64) -> Option<i64>
     ensures { IfSome result (λ n. arithmetic op left right ≡ Ok n) }
 {
-    match op {
-        BinOp::Add => left.checked_add(right),
-        BinOp::Sub => left.checked_sub(right),
-        BinOp::Mul => left.checked_mul(right),
-        BinOp::Floor | BinOp::Mod => None,
+    match calculate(op, left, right) {
+        Err(_) => None,
+        Ok(n) => Some(n),
     }
 }
 
-/// What a comparison of two whole numbers answers, if it orders them.
+/// What a comparison of two whole numbers by their order answers.
 fn tested(question: Question, left: i64, right: i64) -> Option<bool>
     ensures { IfSome result (λ holds. (h : PlainHeap)
         → compared (asked question) (int_value left) (int_value right) h ≡ Ok holds) }
@@ -72,7 +71,9 @@ impl State {
     {
         match instr {
             Instr::Constant(n) => self.constant_at_once(unit, n, store),
+            Instr::Pop => self.pop_at_once(unit, store),
             Instr::LoadLocal(n) => self.local_at_once(unit, n, store),
+            Instr::StoreLocal(n) => self.store_local_at_once(unit, n, store),
             Instr::LoadGlobal(n) => self.global_at_once(unit, n, store),
             Instr::Binary(op) => self.binary_at_once(unit, op, store),
             Instr::InPlace(op) => self.in_place_at_once(unit, op, store),
@@ -80,11 +81,9 @@ impl State {
             Instr::Goto(to) => self.goto_at_once(unit, to, store),
             Instr::IfFalse(to) => self.if_false_at_once(unit, to, store),
             Instr::IfTrue(to) => self.if_true_at_once(unit, to, store),
-            Instr::Pop
-            | Instr::Copy(_)
+            Instr::Copy(_)
             | Instr::Sink(_)
             | Instr::Roll(_)
-            | Instr::StoreLocal(_)
             | Instr::UnsetLocal(_)
             | Instr::StoreGlobal(_)
             | Instr::UnsetGlobal(_)
@@ -161,6 +160,18 @@ impl State {
         }
     }
 
+    fn pop_at_once(&mut self, unit: &Unit, store: &Store) -> bool
+        requires { self.old.top.place < usize.MAX }
+        ensures { DoneAtOnce result unit.now Pop self.old store.now self.new }
+    {
+        let Some(x) = self.top.operands.pop() else {
+            return false;
+        };
+        drop(x);
+        self.top.place += 1;
+        true
+    }
+
     fn local_at_once(&mut self, unit: &Unit, n: u32, store: &Store) -> bool
         requires { self.old.top.place < usize.MAX }
         ensures { DoneAtOnce result unit.now (LoadLocal n) self.old store.now self.new }
@@ -175,6 +186,21 @@ impl State {
             None => false,
             Some(copy) => self.push_at_once(copy),
         }
+    }
+
+    fn store_local_at_once(&mut self, unit: &Unit, n: u32, store: &Store) -> bool
+        requires { self.old.top.place < usize.MAX }
+        ensures { DoneAtOnce result unit.now (StoreLocal n) self.old store.now self.new }
+    {
+        let Some(_) = numbered(&unit.locals, n) else {
+            return false;
+        };
+        let Some(x) = self.top.operands.pop() else {
+            return false;
+        };
+        self.top.slots.set(n as usize, x.into_value());
+        self.top.place += 1;
+        true
     }
 
     fn global_at_once(&mut self, unit: &Unit, n: u32, store: &Store) -> bool
@@ -264,7 +290,7 @@ impl State {
         requires { self.old.top.place < usize.MAX }
         ensures { DoneAtOnce result unit.now (IfFalse to) self.old store.now self.new }
     {
-        let Some(holds) = self.top.operands.truth_on_top() else {
+        let Some(holds) = self.top.operands.bool_on_top() else {
             return false;
         };
         self.go_at_once(!holds, to)
@@ -274,7 +300,7 @@ impl State {
         requires { self.old.top.place < usize.MAX }
         ensures { DoneAtOnce result unit.now (IfTrue to) self.old store.now self.new }
     {
-        let Some(holds) = self.top.operands.truth_on_top() else {
+        let Some(holds) = self.top.operands.bool_on_top() else {
             return false;
         };
         self.go_at_once(holds, to)

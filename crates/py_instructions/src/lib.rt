@@ -2,7 +2,7 @@
 //! it, as far as the machine does it alone.
 //!
 //! `State::decide` does the instruction at the present place, and answers a `Turn`, which is what
-//! is left to do of it.
+//! is left to do of it. `State::run_ahead` does some of the next ones at once.
 #![tactic(auto)]
 
 mod ahead;

@@ -1,9 +1,8 @@
 // What stands on the operands of a frame.
 ghost use Rattle.std.specs.Prelude.{◌≡◌, IfOk, IfSome};
 ghost use Rattle.py_value.specs.Plain.{none_value, bool_value, int_value};
-ghost use Rattle.py_code.specs.Configurations.{of_value};
 ghost use Rattle.py_value.specs.View.{plain, plain_raised};
-ghost use Rattle.py_code.specs.Configurations.{on};
+ghost use Rattle.py_code.specs.Configurations.{of_value, on};
 ghost use Rattle.py_code.specs.Operands.{value_in, callee_in, operand_of, walk_in, way_in, exception_of_way, exception_in};
 ghost use Rattle.py_store.specs.Values.{plain_callee};
 ghost use Rattle.py_instructions.specs.Operands.{plain_way, plain_operand, plain_walk, is_builtin, borrows_values};
@@ -103,8 +102,8 @@ fn number_of(value: &Value) -> Option<i64>
     }
 }
 
-/// True or False, where a value is one of them.
-fn truth_of(value: &Value) -> Option<bool>
+/// The bool that a value is.
+fn bool_of(value: &Value) -> Option<bool>
     ensures { IfSome result (λ b. plain value.now ≡ bool_value b) }
 {
     match value {
@@ -175,8 +174,8 @@ impl Operand {
         }
     }
 
-    /// The whole number that it is.
-    pub fn number(&self) -> Option<i64>
+    /// The whole number that it is, if it is one.
+    pub(crate) fn number(&self) -> Option<i64>
         ensures { IfSome result (λ n. plain_operand self.now ≡ of_value (int_value n)) }
     {
         match self {
@@ -187,12 +186,12 @@ impl Operand {
         }
     }
 
-    /// The truth, True or False, that it is.
-    pub fn holds(&self) -> Option<bool>
+    /// The bool that it is, if it is one.
+    pub(crate) fn bool(&self) -> Option<bool>
         ensures { IfSome result (λ b. plain_operand self.now ≡ of_value (bool_value b)) }
     {
         match self {
-            Operand::Value(value) => truth_of(value),
+            Operand::Value(value) => bool_of(value),
             Operand::Method(_, _) => None,
             Operand::Walk(_, _, _) => None,
             Operand::Way(_) => None,

@@ -31,7 +31,7 @@ impl Stack<Operand> {
     }
 
     /// The whole number that stands so many below the top, if it is one.
-    pub fn number(&self, below: usize) -> Option<i64>
+    pub(crate) fn number(&self, below: usize) -> Option<i64>
         ensures { IfSome result (λ n. slice_get (plain_operands self.now) below
             ≡ Some (of_value (int_value n))) }
     {
@@ -41,20 +41,21 @@ impl Stack<Operand> {
         }
     }
 
-    /// The topmost operand, where it is True or False.
-    pub fn truth_on_top(&self) -> Option<bool>
+    /// The bool on top, if one is.
+    pub(crate) fn bool_on_top(&self) -> Option<bool>
         ensures { IfSome result (λ b. slice_get (plain_operands self.now) 0
             ≡ Some (of_value (bool_value b))) }
     {
         match self.operand(0) {
             None => None,
-            Some(top) => top.holds(),
+            Some(top) => top.bool(),
         }
     }
 
     /// Puts a value in place of the two topmost operands, where there are two.
-    pub fn put_for_two(&mut self, value: Value)
-        ensures { (y x : PlainOperand) (rest : List PlainOperand) → plain_operands self.old ≡ y ∷ x ∷ rest
+    pub(crate) fn put_for_two(&mut self, value: Value)
+        ensures { (y x : PlainOperand) (rest : List PlainOperand)
+            → plain_operands self.old ≡ y ∷ x ∷ rest
             → plain_operands self.new ≡ of_value (plain value) ∷ rest }
     {
         self.replace_two(Operand::Value(value));

@@ -95,7 +95,7 @@ impl<T: Drop> Stack<T> {
     }
 
     /// Puts something in place of the two topmost, where there are two.
-    pub fn replace_two(&mut self, x: T)
+    pub(crate) fn replace_two(&mut self, x: T)
         ensures { (z y : T) (rest : List T) → self.old ≡ z ∷ y ∷ rest → self.new ≡ x ∷ rest }
     {
         let count = self.items.len();

@@ -9,7 +9,7 @@ ghost use Rattle.py_value.specs.Operators.{number_result, repeated_sequence, bin
 
 use crate::cause::Cause;
 use crate::heap::Heap;
-use crate::number::arithmetic;
+use crate::number::calculate;
 use crate::sequences::{join_items, join_texts, repeat_items, repeat_text};
 use crate::shared::Items;
 use crate::value::{Addr, Raised, Value};
@@ -79,7 +79,7 @@ fn numbers(op: BinOp, left: &Value, right: &Value) -> Result<Value, Cause>
 fn of_whole_numbers(op: BinOp, left: i64, right: i64) -> Result<Value, Cause>
     ensures { IsNumberOf result (arithmetic op left right) }
 {
-    match arithmetic(op, left, right) {
+    match calculate(op, left, right) {
         Ok(n) => Ok(Value::Int(n)),
         Err(cause) => Err(cause),
     }

@@ -40,6 +40,7 @@ pub use exception::ExcKind;
 pub use heap::Heap;
 pub use indexing::index;
 pub use limits::{MOST_ITEMS, MOST_LEVELS};
+pub use number::calculate;
 pub use places::place_among;
 pub use py_operator::{BinOp, CmpOp};
 pub use py_text::{NoMemory, Text};

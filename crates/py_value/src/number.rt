@@ -23,7 +23,7 @@ impl Value {
 }
 
 /// The exact value, or why there is none.
-pub fn arithmetic(op: BinOp, left: i64, right: i64) -> Result<i64, Cause>
+pub fn calculate(op: BinOp, left: i64, right: i64) -> Result<i64, Cause>
     ensures { result ≡ arithmetic op left right }
 {
     match op {

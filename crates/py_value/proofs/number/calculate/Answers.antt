@@ -1,6 +1,6 @@
 use Rattle.std.proofs.Common.{arith}
 use Rattle.std.proofs.lemmas.Grind.{common_steps}
-use Rattle.py_value.proofs.number.arithmetic.Goals as goal
+use Rattle.py_value.proofs.number.calculate.Goals as goal
 
 pub returns-in-Add : goal.returns-in-Add
 returns-in-Add c = grind (arith, common_steps)
