@@ -27,6 +27,8 @@ BESIDE = ("-wal", "-shm", "-journal")
 NO_FILE, FILES, STORE = "no file {}", "files failed", "data store failed"
 OUTPUT = "writing output failed"
 IS_ROOT = os.geteuid() == 0
+# Data that stand off the disk that is full.
+ELSEWHERE = "/dev/shm/files-data"
 
 
 def row(title, prepare, *commands):
@@ -58,7 +60,7 @@ ROWS = [
     row("No right to write", SAVED + "printf '{}' > coverage.json", ("report", None, None), ("run a.py", 74, STORE), ("erase", 74, STORE), ("json", 74, None), ("arcs a.py", 0, "")),
     row("No right to the folder", "mkdir no; cp a.py no; chmod 700 no", ("arcs no/a.py", 74, FILES), ("run --data-file=no/d a.py", 74, STORE), ("json -o no/x --data-file=no/d", 74, STORE)),
     row("A full disk, no data", "cat /dev/zero > fill", ("run a.py", 74, STORE), ("arcs a.py", 0, "")),
-    row("A full disk, a report behind a link", SAVED + "touch .coverage-wal; echo old > y; ln -s y x.json; cat /dev/zero > fill", ("json -o x.json", 74, FILES)),
+    row("A full disk, a report behind a link", SAVED + f"mv .coverage {ELSEWHERE}; echo old > y; ln -s y x.json; cat /dev/zero > fill", (f"json -o x.json --data-file={ELSEWHERE}", 74, FILES)),
     row("A full disk, data", SAVED + "cat /dev/zero > fill", ("run --branch a.py", 74, STORE), ("run -a --branch a.py", 74, STORE), ("json", 74, STORE), ("report", 74, STORE), ("erase", 0, "")),
 ]
 # Streams: the title, what the shell does with the program's, the status, and standard error where it is known.
@@ -212,6 +214,8 @@ def main():
         tell(title, wrong, "; ".join(told))
         if disk:
             subprocess.run(["umount", top], check=True)
+            if os.path.exists(ELSEWHERE):
+                os.remove(ELSEWHERE)
         shutil.rmtree(top)
     top = tempfile.mkdtemp(prefix="files-")
     for name, text in (("a.py", A), ("long.py", "for k in range(9999):\n    print(k * 1000000)\n"), ("reads.py", "input()\n"), ("raises.py", "print(1)\nraise ValueError('x' * 9000)\n")):

@@ -73,10 +73,10 @@ pub fn coverage<H: Shelf, V: Vault, M: Maker, I: Source, O: Sink, E: Sink, G: En
 
     // The headline. Where the objects tell what they hold and count no fault, memory suffices and
     // the engine is true, every run prints and ends as its source means. Its arcs are those of that
-    // meaning, each predicted or crossed by an exception. What `report` lists as missing lines and
-    // branches are exactly the predicted ones, neither excluded nor freed, that neither a combined
-    // run nor data that were there at first took. So it is of each line of a script, over the data
-    // that those before it left.
+    // meaning, each predicted or crossed by an exception. What `report`, `json` and `lcov` list as
+    // missing is exactly what neither a combined run nor data that were there at first took, of the
+    // statements that aren't excluded and the predicted branches that are neither excluded nor
+    // freed. So it is of each line of a script, over the data that those before it left.
     ensures headline { HeadsWhere
         H.Shelf V.Vault M.Maker I.Source O.Sink P.Plugin G.Engine E.Sink
         (map string_bytes words.now) (plain_why result.why)

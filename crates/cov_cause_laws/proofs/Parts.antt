@@ -36,7 +36,7 @@ use Rattle.py_syntax.specs.Tree.{Text}
 use Rattle.py_token.specs.declared.error.TokenError.TheVariants as token_error
 use Rattle.cov_complete_laws.specs.Premises.{IsFile, IsSettingsFile, AreSettings, AreModules, Holds, IsReplaceable, HoldAll}
 use Rattle.cov_complete_laws.proofs.Holding.{Holding, told, none-some, some-none, true-false, moved}
-use Rattle.cov_cause_laws.specs.Checks.{Check, SourceRefuses, absent, large, unreadable, is_too_long, unusable, unjoinable, Passes, Refuses, IsFirst, AllPass}
+use Rattle.cov_cause_laws.specs.Checks.{Check, absent, large, unreadable, is_too_long, unusable, unjoinable, Passes, Refuses, IsFirst, AllPass}
 use Rattle.cov_cause_laws.specs.Checks as check
 use Rattle.cov_cause_laws.specs.Causes.{AreRefused}
 use Rattle.cov_cause_laws.specs.Causes as causes

@@ -11,8 +11,8 @@ use Rattle.py_syntax.specs.declared.stmt.StmtKind as kind_
 use Rattle.py_syntax.specs.declared.stmt.Suite.{Suite as SuiteNode}
 use Rattle.py_syntax.specs.Functions.{is_docstring, without_docstring}
 use Rattle.py_syntax.specs.Marks.{stmts_marks, kind_marks, arms_marks, opt_marks}
-use Rattle.py_syntax.specs.Tree.{Text, Expr, str}
-use Rattle.py_syntax.specs.Tree.{Stmts, no_stmts, stmt, Suite, suite, Arms, arm, StmtKind, expr, global, if'}
+use Rattle.py_syntax.specs.Tree.{Text, str}
+use Rattle.py_syntax.specs.Tree.{Stmts, no_stmts, stmt, StmtKind, expr, global, if'}
 use Rattle.py_syntax.specs.View.{plain_stmts, plain_kind, plain_opt_suite, plain_arms}
 use Rattle.py_changes.specs.Same.{same_bool, same_texts}
 use Rattle.py_changes.specs.Changed.{is_empty, has_docstring, same_silent, same_docstring, fits_body}
@@ -87,11 +87,6 @@ fits-law a b = by_case (leads a b) ∙ ap (λ ls. some ls || (same_bool (has_doc
       → (some (stmts_marks (without_docstring a)) || (lead_alike a b && same_silent (without_docstring a) (without_docstring b))) ≡ (some (stmts_marks (without_docstring a)) || (same_bool (has_docstring a) (has_docstring b) && same_docstring a b && same_silent (without_docstring a) (without_docstring b)))
   by_case (inl e) = rw e refl
   by_case (inr e) = ap (λ t. some (stmts_marks (without_docstring a)) || (t && same_silent (without_docstring a) (without_docstring b))) e
-
--- ---- tests of an `if`
-
-pub arms-mark : (e : Expr) (s : Suite) (r : Arms) → some (arms_marks (arm e s r)) ≡ true
-arms-mark e (suite f l i b) r = refl
 
 -- ---- from the code to the laws
 

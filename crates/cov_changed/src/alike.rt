@@ -1,6 +1,5 @@
 //! Pieces of two texts that are the same: `is_alike`.
-ghost use Rattle.std.specs.Prelude.{◌≡◌, ◌||◌, not};
-ghost use Rattle.py_syntax.specs.Marks.{stmts_marks};
+ghost use Rattle.std.specs.Prelude.{◌≡◌, ◌||◌};
 ghost use Rattle.py_syntax.specs.View.{plain_stmts};
 ghost use Rattle.py_changes.specs.Same.{same_int};
 ghost use Rattle.py_changes.specs.Changed.{fits_stmts};

@@ -1,5 +1,5 @@
 //! The functions of two versions of a module: `functions`, `same_defs`, `changed_functions`.
-ghost use Rattle.std.specs.Prelude.{◌≡◌, ◌++◌, ◌∷◌, [], length, map, IfOk, OnOk};
+ghost use Rattle.std.specs.Prelude.{◌≡◌, ◌++◌, ◌∷◌, length, map, IfOk, OnOk};
 ghost use Rattle.py_changes.specs.Changed.{where_not, by_parts, same_def, same_defs, changed_function, changed_functions};
 ghost use Rattle.cov_pieces.specs.Pieces.{picked, mark_of, function_of, body_pieces};
 ghost use Rattle.cov_pieces.specs.Views.{plain_function, plain_piece, pieces_of};

@@ -15,4 +15,5 @@ mod texts;
 mod versions;
 
 pub use bodies::fits;
+pub use texts::hold;
 pub use versions::{all_marks, changed};

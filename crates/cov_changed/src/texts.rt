@@ -5,8 +5,8 @@ ghost use Rattle.py_changes.specs.Same.{same_texts};
 
 use py_text::Text;
 
-/// Whether both hold.
-pub(crate) fn hold(one: bool, other: bool) -> bool
+/// Whether both hold: a call, since each `&&` of a long test is one more way through it to prove.
+pub fn hold(one: bool, other: bool) -> bool
     ensures { result ≡ (one && other) }
 {
     one && other

@@ -1,5 +1,5 @@
 -- What a combine promises.
-use Rattle.std.proofs.Common.{◌≡◌, ◌≢◌, inl, inr, ◌∙◌, ◌+◌, ◌<◌, ◌++◌, Bool, true, false, true≢false, not, cond, if◌then◌else◌, refl, sym, ap, subst, List, [], ◌∷◌, map, filter, length, Option, Some, None, Result, Ok, Err, arith}
+use Rattle.std.proofs.Common.{◌≡◌, ◌≢◌, inl, inr, ◌∙◌, ◌<◌, ◌++◌, Bool, true, false, true≢false, not, cond, if◌then◌else◌, refl, sym, ap, subst, List, [], ◌∷◌, map, filter, length, Option, Some, None, Result, Ok, Err, arith}
 use Rattle.std.specs.Prelude.{◌⊎◌, ◌||◌}
 use Rattle.std.specs.FinMap as finite
 use Rattle.std.specs.FinMap.{get-insert, get-remove}

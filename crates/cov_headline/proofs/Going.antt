@@ -142,7 +142,7 @@ module _ (k : (call : Call) → Answer call → Bool) where
     same_kind-keeps ds = same_kind-so Keeps (λ A a. tt) (λ A r e. tt) (λ A B p next. then-keeps k p next) (λ A B p h xs. each-keeps k p h xs)
         (λ absent n name x. (of_reads name _ x, bytes-keeps absent x)) (λ x. (of_reads _ _ x, any-keeps x)) opened-keeps check-keeps (λ n texts x. (of_makes texts x, on-keeps (pattern_refusal n) x)) ds
 
-    pub reported-keeps : (data_file rcfile : Option Word) → Keeps _ (reported data_file rcfile)
+    reported-keeps : (data_file rcfile : Option Word) → Keeps _ (reported data_file rcfile)
     reported-keeps data_file rcfile = reported-so Keeps (λ A a. tt) (λ A r e. tt) (λ A B p next. then-keeps k p next) (λ A B p h xs. each-keeps k p h xs)
         (λ absent n name x. (of_reads name _ x, bytes-keeps absent x)) (λ x. (of_reads _ _ x, any-keeps x)) opened-keeps check-keeps (λ n texts x. (of_makes texts x, on-keeps (pattern_refusal n) x)) needed-keeps data_file rcfile
 

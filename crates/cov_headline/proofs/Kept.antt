@@ -1,6 +1,6 @@
 -- Where the data come from that are kept, command by command.
-use Rattle.std.proofs.Common.{◌≡◌, ◌≢◌, inl, inr, ◌∙◌, ◌<◌, ◌++◌, Bool, true, false, true≢false, not, cond, refl, sym, ap, subst, List, [], ◌∷◌, map, Contains, length, Option, Some, None, arith}
-use Rattle.std.specs.Prelude.{◌⊎◌, ◌||◌}
+use Rattle.std.proofs.Common.{◌≡◌, ◌≢◌, inl, inr, ◌∙◌, ℕ, ◌<◌, ◌++◌, Bool, true, false, true≢false, not, cond, if◌then◌else◌, refl, sym, ap, subst, List, [], ◌∷◌, map, Contains, length, Option, Some, None, arith}
+use Rattle.std.specs.Prelude.{◌⊎◌, ◌||◌, codes}
 use Rattle.std.specs.Bool.{beq}
 use Rattle.std.specs.FinMap as finite
 use Rattle.std.specs.FinMap.{get-insert}
@@ -9,11 +9,16 @@ use Rattle.std.specs.Ordering.{eq_by_cmp}
 use Rattle.std.specs.Str.{bytes_eq}
 use Rattle.std.proofs.lemmas.List.Elements.{Contains-append_right}
 use Rattle.std.proofs.lemmas.Slice.Eq.{bytes_eq-Decides}
+use Rattle.cov_outside.specs.Files.{with_file}
 use Rattle.cov_contexts.specs.declared.plugins.Plugin.{Ghosts as PluginOf}
+use Rattle.cov_analysis.specs.Analyses.{AnalysisView}
 use Rattle.cov_combine.specs.Aliases.{Rules, alias_of, rules_from}
 use Rattle.cov_combine.specs.Combined.{flag_of, combined}
+use Rattle.cov_config.specs.Settings.{ReportSettings}
 use Rattle.cov_data.specs.DataSet.{DataSet, text_cmp, union}
 use Rattle.cov_data.proofs.FileViews.{text_cmp_total}
+use Rattle.cov_json.specs.Json.{json_bytes}
+use Rattle.cov_lcov.specs.Lcov.{lcov_bytes}
 use Rattle.cov_vault.specs.Contents.{Contents}
 use Rattle.cov_vault.specs.declared.vault.Content.TheVariants.{Good}
 use Rattle.cov_words.specs.Commands.{PlainCommand}
@@ -21,13 +26,14 @@ use Rattle.cov_words.specs.Commands as plain
 use Rattle.cov_words.specs.Values.{Word}
 use Rattle.cov_step.specs.Calls.{Answered, Asked, TestsAsked}
 use Rattle.cov_step.specs.Commands.{asked_by, hook_named}
+use Rattle.cov_step.specs.Names.{or_else}
 use Rattle.cov_step.specs.Phases as phases
 use Rattle.cov_step.specs.Testing.{tests_asked}
 use Rattle.cov_suite.specs.Tests.{tests_of}
 use Rattle.cov_headline.specs.Commands.{Loses, Promise, runs_of}
 use Rattle.cov_headline.specs.Kept.{Recorded, IsFrom, AreFrom, AreKept}
 use Rattle.cov_headline.specs.Origins.{PlainRun, Origin, found, ran, joined, united, Origins, no_more, and_of, data_of, datas_of, IsRecorded, IsOf, AreOf}
-use Rattle.cov_headline.specs.Promises.{run_of, AddsTo, RunPromise, HasOwn, HasInputs, names_in, CombinePromise}
+use Rattle.cov_headline.specs.Promises.{patterns_of, run_of, AddsTo, RunPromise, HasOwn, HasInputs, names_in, CombinePromise, with_text, PutPromise}
 use Rattle.cov_headline.specs.Suites.{import_run, test_run, suite_runs, AreRecorded, paired, SuitePromise}
 use Rattle.cov_headline.specs.Told.{Held}
 use Rattle.cov_headline.proofs.Joining.{combined-kind}
@@ -211,6 +217,17 @@ module _ {P : Type 0} (plugin : PluginOf P) (first : Contents) (runs : Recorded)
         | inr gone ↦ absurd (none-some (sym gone ∙ e))
       ]
 
+  -- a text that is put
+  kept-text : (name : Word) (bytes : List ℕ) (old new : Held P) → AreKept first runs old.contents → new ≡ with_text name bytes old → AreKept first runs new.contents
+  kept-text name bytes old new k e = kept-less first runs old.contents new.contents k (loses-none old.contents new.contents (by (bytes_eq name (codes "-")) e))
+    where
+      by : (dash : Bool) → new ≡ (if dash then record old { out = old.out ++ bytes } else record old { files = with_file name bytes old.files }) → new.contents ≡ old.contents
+      by true f = ap (λ (w : Held P). w.contents) f
+      by false f = ap (λ (w : Held P). w.contents) f
+
+  kept-put : (s : ReportSettings) (own name : Word) (bytes : List AnalysisView → Bool → List ℕ) (least : ℕ) (old : Held P) (a : Answered) (new : Held P) → AreKept first runs old.contents → PutPromise first runs s own name bytes least old a new → AreKept first runs new.contents
+  kept-put s own name bytes least old a new k p = kept-text name (bytes (map (phases.analysed (patterns_of s) p.reported.d) p.reported.sources) p.reported.d.arcs) old new k p.put
+
   kept-suite : (asked : TestsAsked) (own file : Word) (old : Held P) (a : Answered) (new : Held P) → AreKept first runs old.contents → (p : SuitePromise plugin asked own file old a new)
       → AreKept first (paired (suite_runs p.modules asked.budget) (p.of_import ∷ p.of_tests) ++ runs) new.contents
   kept-suite asked own file old a new k p name d e = by (eq_by_cmp text_cmp name own) (ap (λ c. finite.get c name) p.saved ∙ get-insert text_cmp_total old.contents own (Good (fold union p.of_import p.of_tests)) name)
@@ -235,8 +252,10 @@ module _ {P : Type 0} (plugin : PluginOf P) (first : Contents) (runs : Recorded)
   promise-keeps (plain.combine append keep data_file rcfile names) old a new p k = kept-combine (phases.own_name data_file p.0) (rules_from p.0.paths) append names old a new k p.2
   promise-keeps (plain.report show_missing fail_under data_file rcfile) old a new p k =
       kept-less first runs old.contents new.contents k (loses-none old.contents new.contents (ap (λ (w : Held P). w.contents) p.2.printed))
-  promise-keeps (plain.json name fail_under data_file rcfile) old a new p k = kept-less first runs old.contents new.contents k p
-  promise-keeps (plain.lcov name fail_under data_file rcfile) old a new p k = kept-less first runs old.contents new.contents k p
+  promise-keeps (plain.json name fail_under data_file rcfile) old a new p k =
+      kept-put p.0.report (phases.own_name data_file p.0) (or_else name (codes "coverage.json")) json_bytes (or_else fail_under p.0.report.fail_under) old a new k p.2
+  promise-keeps (plain.lcov name fail_under data_file rcfile) old a new p k =
+      kept-put p.0.report (phases.own_name data_file p.0) (or_else name (codes "coverage.lcov")) lcov_bytes (or_else fail_under p.0.report.fail_under) old a new k p.2
   promise-keeps (plain.annotate data_file rcfile file) old a new p k = kept-less first runs old.contents new.contents k p
   promise-keeps (plain.erase data_file rcfile) old a new p k = kept-less first runs old.contents new.contents k p
   promise-keeps (plain.script file) old a new p k = absurd p

@@ -1,10 +1,12 @@
 -- Each line of a script, and words.
 use Rattle.std.proofs.Common.{◌≡◌, inl, inr, ◌∙◌, ℕ, ◌++◌, Bool, true, false, if◌then◌else◌, refl, sym, ap, subst, List, [], ◌∷◌, Option, Some, None, Result, Ok, Err}
-use Rattle.std.specs.Prelude.{nat_le}
+use Rattle.std.specs.Prelude.{nat_le, codes}
 use Rattle.std.specs.Str.{chars, is_utf8}
 use Rattle.std.specs.Str.Lines.{lines}
 use Rattle.cov_contexts.specs.declared.plugins.Plugin.{Ghosts as PluginOf}
 use Rattle.py_token.specs.Source.{line_count, most_lines}
+use Rattle.cov_json.specs.Json.{json_bytes}
+use Rattle.cov_lcov.specs.Lcov.{lcov_bytes}
 use Rattle.cov_programs.specs.Laws.{Folds, Parted, nothing_wants}
 use Rattle.cov_programs.specs.Programs.{give, bind, each}
 use Rattle.cov_programs.proofs.Folding.{parted, folds}
@@ -20,6 +22,7 @@ use Rattle.cov_words.specs.Commands.{PlainCommand, IsCommand}
 use Rattle.cov_words.specs.Commands as plain
 use Rattle.cov_words.specs.Values.{Word}
 use Rattle.cov_step.specs.Calls.{Answered, refuse}
+use Rattle.cov_step.specs.Names.{or_else}
 use Rattle.cov_step.specs.Phases.{file, done}
 use Rattle.cov_step.specs.Scripts.{inside, words_in, status_line, ended_in, line_done, is_comment, words_done, line_step, is_text, is_short, is_script, script_text, lines_done, script}
 use Rattle.cov_step.specs.Step.{doing, step}
@@ -30,9 +33,9 @@ use Rattle.cov_headline.specs.Told.{Held, IsSaidNow, tells}
 use Rattle.cov_headline.proofs.Combining.{combine-promise}
 use Rattle.cov_headline.proofs.Going.{Goes, is_quiet, IsQuiet, went, quiet-same, gave, bytes-keeps}
 use Rattle.cov_headline.proofs.Kept.{kept-first, promise-keeps}
-use Rattle.cov_headline.proofs.Losing.{loses-all, arcs-none, json-none, lcov-none, annotate-none, erase-none, make-none}
+use Rattle.cov_headline.proofs.Losing.{loses-all, arcs-none, annotate-none, erase-none, make-none}
 use Rattle.cov_headline.proofs.Recorded.{CameLaw}
-use Rattle.cov_headline.proofs.Reporting.{report-promise, file-so}
+use Rattle.cov_headline.proofs.Reporting.{report-promise, put-promise, file-so}
 use Rattle.cov_headline.proofs.Retesting.{select-promise, mutate-promise}
 use Rattle.cov_headline.proofs.Running.{run-promise}
 use Rattle.cov_headline.proofs.Testing.{suite-promise}
@@ -49,9 +52,9 @@ module _ {P : Type 0} (plugin : PluginOf P) (came : CameLaw) where
   inside-promise first runs (plain.arcs budget script args) old a new k h = loses-all plugin (inside (plain.arcs budget script args)) old new (Ok a) (arcs-none budget script args) h
   inside-promise first runs (plain.run branch append context budget hook data_file rcfile script args) old a new k h = run-promise plugin came branch append context budget hook data_file rcfile script args old a new h
   inside-promise first runs (plain.combine append keep data_file rcfile names) old a new k h = combine-promise plugin append keep data_file rcfile names old a new h
-  inside-promise first runs (plain.report show_missing fail_under data_file rcfile) old a new k h = report-promise plugin first runs show_missing fail_under data_file rcfile old a new k h
-  inside-promise first runs (plain.json name fail_under data_file rcfile) old a new k h = loses-all plugin (inside (plain.json name fail_under data_file rcfile)) old new (Ok a) (json-none name fail_under data_file rcfile) h
-  inside-promise first runs (plain.lcov name fail_under data_file rcfile) old a new k h = loses-all plugin (inside (plain.lcov name fail_under data_file rcfile)) old new (Ok a) (lcov-none name fail_under data_file rcfile) h
+  inside-promise first runs (plain.report show_missing fail_under data_file rcfile) old a new k h = report-promise plugin first runs fail_under data_file rcfile old a new k show_missing h
+  inside-promise first runs (plain.json name fail_under data_file rcfile) old a new k h = put-promise plugin first runs fail_under data_file rcfile old a new k (or_else name (codes "coverage.json")) json_bytes h
+  inside-promise first runs (plain.lcov name fail_under data_file rcfile) old a new k h = put-promise plugin first runs fail_under data_file rcfile old a new k (or_else name (codes "coverage.lcov")) lcov_bytes h
   inside-promise first runs (plain.annotate data_file rcfile path) old a new k h = loses-all plugin (inside (plain.annotate data_file rcfile path)) old new (Ok a) (annotate-none data_file rcfile path) h
   inside-promise first runs (plain.erase data_file rcfile) old a new k h = loses-all plugin (inside (plain.erase data_file rcfile)) old new (Ok a) (erase-none data_file rcfile) h
   inside-promise first runs (plain.script name) old a new k h = refused-so (usage 0) a old new h

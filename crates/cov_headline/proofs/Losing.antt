@@ -1,13 +1,10 @@
 -- Commands that save no data: each name holds what it held, or nothing.
-use Rattle.std.proofs.Common.{◌≡◌, inl, inr, ◌∙◌, ℕ, Bool, true, false, true≢false, if◌then◌else◌, refl, sym, ap, List, [], ◌∷◌, ◌++◌, Option, Some, None, Result, Ok, Err}
-use Rattle.std.specs.Prelude.{◌⊎◌, codes}
+use Rattle.std.proofs.Common.{◌≡◌, inl, inr, ◌∙◌, ℕ, Bool, true, false, true≢false, refl, sym, ap, List, [], ◌∷◌, ◌++◌, Option, Some, None, Result, Ok, Err}
+use Rattle.std.specs.Prelude.{◌⊎◌}
 use Rattle.std.specs.FinMap as finite
-use Rattle.std.specs.Str.{bytes_eq}
 use Rattle.cov_contexts.specs.declared.plugins.Plugin.{Ghosts as PluginOf}
 use Rattle.cov_config.specs.Settings.{no_cover, no_branch}
-use Rattle.cov_json.specs.Json.{json_bytes}
 use Rattle.cov_lcov.specs.Annotated.{annotated_bytes}
-use Rattle.cov_lcov.specs.Lcov.{lcov_bytes}
 use Rattle.cov_make.specs.Source as made
 use Rattle.cov_programs.specs.Laws.{OnlyKeeps}
 use Rattle.cov_programs.specs.Programs.{give, settle, refuse, ask, bind}
@@ -18,16 +15,16 @@ use Rattle.cov_why.specs.Answers.{PlainWhy}
 use Rattle.cov_words.specs.Values.{Word}
 use Rattle.py_syntax.specs.Tree.{Text}
 use Rattle.cov_step.specs.Calls.{Call, spells, checks, reads, puts, opens, lists, loads, saves, removes, makes, writes, crosses, measures, tries, tests, selects, judges, says, Answer, Answered, Step}
-use Rattle.cov_step.specs.Answers.{given_or, run_refusal, shelf_refusal, sink_refusal, last, tree_of}
-use Rattle.cov_step.specs.Commands.{words_of, usual_steps, arcs, json, lcov, annotate, erase}
+use Rattle.cov_step.specs.Answers.{given_or, run_refusal, sink_refusal, tree_of}
+use Rattle.cov_step.specs.Commands.{words_of, usual_steps, arcs, annotate, erase}
 use Rattle.cov_step.specs.Listing.{listing}
 use Rattle.cov_step.specs.Making.{made_path, made_module, ran_if_any, made_line, made_by, make}
 use Rattle.cov_step.specs.Names.{or_else}
-use Rattle.cov_step.specs.Phases.{needed, main_name, opened, settings, own_name, patterns, patterns_by, source, analysed, reported, judged, done, write_last, put_last, remove_last, answered_by}
+use Rattle.cov_step.specs.Phases.{needed, main_name, opened, settings, own_name, patterns, patterns_by, source, analysed, done, write_last, remove_last, answered_by}
 use Rattle.cov_headline.specs.Commands.{Loses}
 use Rattle.cov_headline.specs.Told.{Held, tells}
 use Rattle.cov_headline.proofs.Combining.{lost}
-use Rattle.cov_headline.proofs.Going.{Goes, given-keeps, last-keeps, removed-keeps, tree-keeps, ran-keeps, opened-keeps, needed-keeps, settings-keeps, patterns_by-keeps, source-keeps, reported-keeps}
+use Rattle.cov_headline.proofs.Going.{Goes, given-keeps, last-keeps, removed-keeps, tree-keeps, ran-keeps, opened-keeps, needed-keeps, settings-keeps, patterns_by-keeps, source-keeps}
 
 -- an answer after which no data were saved
 abbrev saves_none : (call : Call) → Answer call → Bool
@@ -123,34 +120,14 @@ none-patterns_by = patterns_by-keeps saves_none (λ n m x. refl) (λ n s x. refl
 none-source : (path : Word) → SavesNone (source path)
 none-source = source-keeps saves_none (λ n m x. refl) (λ n s x. refl) (λ b x. refl) (λ t x. refl) (λ n x. refl) (λ x. refl)
 
-none-reported : (data_file rcfile : Option Word) → SavesNone (reported data_file rcfile)
-none-reported = reported-keeps saves_none (λ n m x. refl) (λ n s x. refl) (λ b x. refl) (λ t x. refl) (λ n x. refl) (λ x. refl)
-
 none-written : (bytes : List ℕ) (a : Answered) → SavesNone (write_last bytes a)
 none-written bytes a = λ x. (refl, last-keeps saves_none sink_refusal a x)
-
-none-put : (name : Word) (bytes : List ℕ) (a : Answered) → SavesNone (put_last name bytes a)
-none-put name bytes a = by (bytes_eq name (codes "-"))
-  where
-    by : (b : Bool) → SavesNone (if b then write_last bytes a else ask (puts name bytes) (last shelf_refusal a))
-    by true = none-written bytes a
-    by false = λ x. (refl, last-keeps saves_none shelf_refusal a x)
 
 pub arcs-none : (steps : Option ℕ) (script : Word) (args : List Word) → SavesNone (arcs steps script args)
 arcs-none steps script args = let most = or_else steps usual_steps in
     then-keeps saves_none (opened main_name script) (λ ms. bind (ask (crosses ms (words_of script args) most) (given_or run_refusal)) (λ r. write_last (listing r.rows) (answered_by most r.outcome))) (none-opened main_name script) (λ ms.
     then-keeps saves_none (ask (crosses ms (words_of script args) most) (given_or run_refusal)) (λ r. write_last (listing r.rows) (answered_by most r.outcome)) (λ x. (refl, given-keeps saves_none run_refusal x)) (λ r.
     none-written (listing r.rows) (answered_by most r.outcome)))
-
-pub json-none : (name : Option Word) (fail_under : Option ℕ) (data_file rcfile : Option Word) → SavesNone (json name fail_under data_file rcfile)
-json-none name fail_under data_file rcfile =
-    then-keeps saves_none (reported data_file rcfile) (λ r. put_last (or_else name (codes "coverage.json")) (json_bytes r.files r.arcs) (judged (or_else fail_under r.settings.report.fail_under) r.files)) (none-reported data_file rcfile)
-    (λ r. none-put (or_else name (codes "coverage.json")) (json_bytes r.files r.arcs) (judged (or_else fail_under r.settings.report.fail_under) r.files))
-
-pub lcov-none : (name : Option Word) (fail_under : Option ℕ) (data_file rcfile : Option Word) → SavesNone (lcov name fail_under data_file rcfile)
-lcov-none name fail_under data_file rcfile =
-    then-keeps saves_none (reported data_file rcfile) (λ r. put_last (or_else name (codes "coverage.lcov")) (lcov_bytes r.files r.arcs) (judged (or_else fail_under r.settings.report.fail_under) r.files)) (none-reported data_file rcfile)
-    (λ r. none-put (or_else name (codes "coverage.lcov")) (lcov_bytes r.files r.arcs) (judged (or_else fail_under r.settings.report.fail_under) r.files))
 
 pub annotate-none : (data_file rcfile : Option Word) (path : Word) → SavesNone (annotate data_file rcfile path)
 annotate-none data_file rcfile path =

@@ -1,10 +1,13 @@
--- What a report promises.
-use Rattle.std.proofs.Common.{◌≡◌, inl, inr, ◌∙◌, ℕ, ◌++◌, Bool, sym, ap, subst, List, [], ◌∷◌, map, filter, length, Option, Some, None, Result, Ok, Err}
-use Rattle.std.specs.Prelude.{◌||◌}
+-- What a report promises, in each form.
+use Rattle.std.proofs.Common.{◌≡◌, inl, inr, ◌∙◌, ℕ, ◌++◌, Bool, true, false, if◌then◌else◌, sym, ap, subst, List, [], ◌∷◌, map, filter, length, Option, Some, None, Result, Ok, Err}
+use Rattle.std.specs.Prelude.{◌||◌, codes}
 use Rattle.std.specs.FinMap as finite
+use Rattle.std.specs.Str.{bytes_eq}
+use Rattle.cov_outside.specs.Files.{Files, with_file}
 use Rattle.cov_outside.specs.declared.shelf.ShelfError.{ShelfError}
 use Rattle.cov_outside.specs.declared.shelf.ShelfError.TheVariants as shelf_error
 use Rattle.cov_contexts.specs.declared.plugins.Plugin.{Ghosts as PluginOf}
+use Rattle.cov_analysis.specs.Analyses.{AnalysisView}
 use Rattle.cov_config.specs.Settings.{Settings, ReportSettings}
 use Rattle.cov_data.specs.DataSet.{DataSet}
 use Rattle.cov_data.specs.Rows.{paths_of}
@@ -17,14 +20,14 @@ use Rattle.cov_vault.specs.Contents.{Contents}
 use Rattle.cov_vault.specs.declared.vault.Content.TheVariants.{Good}
 use Rattle.cov_why.specs.Answers.{Refusal, no_source}
 use Rattle.cov_words.specs.Values.{Word}
-use Rattle.cov_step.specs.Calls.{Answered, PlainSource, Patterns, checks, makes}
-use Rattle.cov_step.specs.Answers.{bytes_of, tree_of, pattern_refusal, on}
+use Rattle.cov_step.specs.Calls.{Answered, PlainSource, Patterns, checks, puts, makes}
+use Rattle.cov_step.specs.Answers.{bytes_of, shelf_refusal, pattern_refusal, last, on, tree_of}
 use Rattle.cov_step.specs.Commands.{report}
 use Rattle.cov_step.specs.Names.{or_else}
-use Rattle.cov_step.specs.Phases.{file, needed, settings, own_name, patterns, always, few, short, source, some_path, is_reported, reported_paths, analysed, Report, reported_in, reported, judged, write_last}
+use Rattle.cov_step.specs.Phases.{file, needed, settings, own_name, patterns, always, few, short, source, some_path, is_reported, reported_paths, analysed, Report, reported_in, reported, judged, write_last, put_last}
 use Rattle.cov_headline.specs.Kept.{Recorded, AreKept}
 use Rattle.cov_headline.specs.Origins.{Origin, data_of, IsOf}
-use Rattle.cov_headline.specs.Promises.{IsSet, patterns_of, AreRead, AreMissing, ReportPromise}
+use Rattle.cov_headline.specs.Promises.{IsSet, patterns_of, AreRead, AreMissing, Reported, ReportPromise, with_text, PutPromise}
 use Rattle.cov_headline.specs.Reports.{MissingAre}
 use Rattle.cov_headline.specs.Told.{Held}
 use Rattle.cov_headline.proofs.Going.{Goes, is_quiet, IsQuiet, went, quietly, gave, quiet-settings, quiet-patterns_by, quiet-needed, quiet-source, quiet-reported}
@@ -126,7 +129,7 @@ module _ {P : Type 0} (plugin : PluginOf P) where
   some_path-so name [] paths old new (inr (is, same)) = absurd (ok_no_err is)
   some_path-so name (p ∷ ps) paths old new h = (gave plugin (p ∷ ps) paths old new h).0
 
-  -- ---- the table
+  -- ---- the last call
 
   written-so : (bytes : List ℕ) (b a : Answered) (old new : Held P) → Goes plugin (write_last bytes b) old (Ok a) new → (a ≡ b) × (new ≡ record old { out = old.out ++ bytes })
   written-so bytes b a old new (inl s) = absurd s.wanting
@@ -135,6 +138,22 @@ module _ {P : Type 0} (plugin : PluginOf P) where
     where
       none : {A : Type 0} {x : A} → ◌≡◌ {A = Option A} (Some x) None → ⊥
       none e = cc
+
+  filed-so : (name : Word) (bytes : List ℕ) (b a : Answered) (old new : Held P) → Goes plugin (ask (puts name bytes) (last shelf_refusal b)) old (Ok a) new → (a ≡ b) × (new ≡ record old { files = with_file name bytes old.files })
+  filed-so name bytes b a old new (inl s) = absurd s.wanting
+  filed-so name bytes b a old new (inr (None, u, m, (is, same))) = (ok_is is, same ∙ m.1 ∙ ap (λ (files : Files). record old { files = files }) m.0)
+  filed-so name bytes b a old new (inr (Some e, u, m, inl s)) = absurd s.wanting
+  filed-so name bytes b a old new (inr (Some e, u, m, inr (is, same))) = absurd (ok_no_err is)
+
+  put-so : (name : Word) (bytes : List ℕ) (b a : Answered) (old new : Held P) → Goes plugin (put_last name bytes b) old (Ok a) new → (a ≡ b) × (new ≡ with_text name bytes old)
+  put-so name bytes b a old new h = by (bytes_eq name (codes "-")) h
+    where
+      by : (dash : Bool) → Goes plugin (if dash then write_last bytes b else ask (puts name bytes) (last shelf_refusal b)) old (Ok a) new
+          → (a ≡ b) × (new ≡ (if dash then record old { out = old.out ++ bytes } else record old { files = with_file name bytes old.files }))
+      by true g = written-so bytes b a old new g
+      by false g = filed-so name bytes b a old new g
+
+  -- ---- what a report tells
 
   quiet-paths : (name : Word) (ps : List Word) → IsQuiet (some_path name ps)
   quiet-paths name [] = tt
@@ -171,44 +190,84 @@ module _ {P : Type 0} (plugin : PluginOf P) where
       let k = quietly plugin (needed own) (λ d. bind (reported_paths own s.report.omit d) (λ paths. bind (each source paths) (λ sources. give (record { settings = s; arcs = d.arcs; files = map (analysed p d) sources })))) old new r (quiet-needed own) h in
       of-paths s p own k.0 old new r is (needed-so own old old k.0 k.1) k.2
 
-  -- the table of what is reported
-  promised : (first : Contents) (runs : Recorded) (s : Settings) (own : Word) (show : Bool) (fail_under : Option ℕ) (old new : Held P) (a : Answered) (r : Report) → AreKept first runs old.contents → IsReported s own old r
-      → (a ≡ judged (or_else fail_under r.settings.report.fail_under) r.files) × (new ≡ record old { out = old.out ++ text_bytes r.files r.arcs (show || r.settings.report.show_missing) })
-      → ReportPromise first runs s.report own (show || s.report.show_missing) (or_else fail_under s.report.fail_under) old a new
-  promised first runs s own show fail_under old new a r k (d, sources, is, held, paths, read) v = let x = k own d held in record {
-    d = d;
-    held = held;
-    sources = sources;
-    paths = paths;
-    read = read;
-    printed = v.1 ∙ ap (λ (q : Report). record old { out = old.out ++ text_bytes q.files q.arcs (show || q.settings.report.show_missing) }) is;
-    ended = v.0 ∙ ap (λ (q : Report). judged (or_else fail_under q.settings.report.fail_under) q.files) is;
-    origin = x.0;
-    is = x.1;
-    of = x.2;
-    from = x.3;
-    missing = missing-all (patterns_of s.report) d x.0 x.1 x.2 sources;
-  }
-
   of-settings : (s : Settings) (own : Word) (old : Held P) (r : Report) → Goes plugin (bind (patterns s.report) (λ p. reported_in s p own)) old (Ok r) old → IsReported s own old r
   of-settings s own old r h =
       let z = quietly plugin (patterns s.report) (λ p. reported_in s p own) old old r (quiet-patterns_by (s.report.exclude_lines ++ s.report.exclude_also) s.report.partial_branches) h in
       reported_in-so s z.0 own old old r (patterns-so s.report z.0 old old z.1) z.2
 
-  of-report : (first : Contents) (runs : Recorded) (show : Bool) (fail_under : Option ℕ) (data_file rcfile : Option Word) (old : Held P) (a : Answered) (new : Held P) (r : Report) → AreKept first runs old.contents → Goes plugin (reported data_file rcfile) old (Ok r) old
-      → Goes plugin (write_last (text_bytes r.files r.arcs (show || r.settings.report.show_missing)) (judged (or_else fail_under r.settings.report.fail_under) r.files)) old (Ok a) new
-      → (s : Settings) × IsSet plugin rcfile old s × ReportPromise first runs s.report (own_name data_file s) (show || s.report.show_missing) (or_else fail_under s.report.fail_under) old a new
-  of-report first runs show fail_under data_file rcfile old a new r k h g =
-      let y = quietly plugin (settings rcfile) (λ s. bind (patterns s.report) (λ p. reported_in s p (own_name data_file s))) old old r (quiet-settings rcfile) h in (
-        y.0,
-        record { ends = y.1 },
-        promised first runs y.0 (own_name data_file y.0) show fail_under old new a r k (of-settings y.0 (own_name data_file y.0) old r y.2)
-            (written-so (text_bytes r.files r.arcs (show || r.settings.report.show_missing)) (judged (or_else fail_under r.settings.report.fail_under) r.files) a old new g),
-      )
+  module _ (first : Contents) (runs : Recorded) (fail_under : Option ℕ) (data_file rcfile : Option Word) (old : Held P) (a : Answered) (new : Held P) (k : AreKept first runs old.contents) where
+    -- what is reported, with where it comes from
+    record Comes (s : Settings) (r : Report) : Type 0 where
+      so : Reported first runs s.report (own_name data_file s) old
+      is : r ≡ record { settings = s; arcs = so.d.arcs; files = map (analysed (patterns_of s.report) so.d) so.sources }
 
-  -- a report that did its work
-  pub report-promise : (first : Contents) (runs : Recorded) (show : Bool) (fail_under : Option ℕ) (data_file rcfile : Option Word) (old : Held P) (a : Answered) (new : Held P) → AreKept first runs old.contents → Goes plugin (report show fail_under data_file rcfile) old (Ok a) new
-      → (s : Settings) × IsSet plugin rcfile old s × ReportPromise first runs s.report (own_name data_file s) (show || s.report.show_missing) (or_else fail_under s.report.fail_under) old a new
-  report-promise first runs show fail_under data_file rcfile old a new k h =
-      let x = quietly plugin (reported data_file rcfile) (λ r. write_last (text_bytes r.files r.arcs (show || r.settings.report.show_missing)) (judged (or_else fail_under r.settings.report.fail_under) r.files)) old new a (quiet-reported data_file rcfile) h in
-      of-report first runs show fail_under data_file rcfile old a new x.0 k x.1 x.2
+    of-reported : (s : Settings) (r : Report) → IsReported s (own_name data_file s) old r → Comes s r
+    of-reported s r (d, sources, is, held, paths, read) = let x = k (own_name data_file s) d held in record {
+      so = record {
+        d = d;
+        held = held;
+        sources = sources;
+        paths = paths;
+        read = read;
+        origin = x.0;
+        is = x.1;
+        of = x.2;
+        from = x.3;
+        missing = missing-all (patterns_of s.report) d x.0 x.1 x.2 sources;
+      };
+      is = is;
+    }
+
+    reported-so : (r : Report) → Goes plugin (reported data_file rcfile) old (Ok r) old → (s : Settings) × IsSet plugin rcfile old s × Comes s r
+    reported-so r h =
+        let y = quietly plugin (settings rcfile) (λ s. bind (patterns s.report) (λ p. reported_in s p (own_name data_file s))) old old r (quiet-settings rcfile) h in
+        (y.0, record { ends = y.1 }, of-reported y.0 r (of-settings y.0 (own_name data_file y.0) old r y.2))
+
+    -- ---- the table
+
+    table-so : (show : Bool) (s : Settings) (r : Report) → Comes s r → Goes plugin (write_last (text_bytes r.files r.arcs (show || r.settings.report.show_missing)) (judged (or_else fail_under r.settings.report.fail_under) r.files)) old (Ok a) new
+        → ReportPromise first runs s.report (own_name data_file s) (show || s.report.show_missing) (or_else fail_under s.report.fail_under) old a new
+    table-so show s r c g =
+        let v = written-so (text_bytes r.files r.arcs (show || r.settings.report.show_missing)) (judged (or_else fail_under r.settings.report.fail_under) r.files) a old new g in record {
+          reported = c.so;
+          printed = v.1 ∙ ap (λ (q : Report). record old { out = old.out ++ text_bytes q.files q.arcs (show || q.settings.report.show_missing) }) c.is;
+          ended = v.0 ∙ ap (λ (q : Report). judged (or_else fail_under q.settings.report.fail_under) q.files) c.is;
+        }
+
+    of-table : (show : Bool) (r : Report) → Goes plugin (reported data_file rcfile) old (Ok r) old → Goes plugin (write_last (text_bytes r.files r.arcs (show || r.settings.report.show_missing)) (judged (or_else fail_under r.settings.report.fail_under) r.files)) old (Ok a) new
+        → (s : Settings) × IsSet plugin rcfile old s × ReportPromise first runs s.report (own_name data_file s) (show || s.report.show_missing) (or_else fail_under s.report.fail_under) old a new
+    of-table show r h g =
+        let x = reported-so r h in
+        (x.0, x.1, table-so show x.0 r x.2 g)
+
+    -- a report that did its work
+    pub report-promise : (show : Bool) → Goes plugin (report show fail_under data_file rcfile) old (Ok a) new
+        → (s : Settings) × IsSet plugin rcfile old s × ReportPromise first runs s.report (own_name data_file s) (show || s.report.show_missing) (or_else fail_under s.report.fail_under) old a new
+    report-promise show h =
+        let x = quietly plugin (reported data_file rcfile) (λ r. write_last (text_bytes r.files r.arcs (show || r.settings.report.show_missing)) (judged (or_else fail_under r.settings.report.fail_under) r.files)) old new a (quiet-reported data_file rcfile) h in
+        of-table show x.0 x.1 x.2
+
+    -- ---- its text in another form
+
+    module _ (name : Word) (bytes : List AnalysisView → Bool → List ℕ) where
+      text-so : (s : Settings) (r : Report) → Comes s r → Goes plugin (put_last name (bytes r.files r.arcs) (judged (or_else fail_under r.settings.report.fail_under) r.files)) old (Ok a) new
+          → PutPromise first runs s.report (own_name data_file s) name bytes (or_else fail_under s.report.fail_under) old a new
+      text-so s r c g =
+          let v = put-so name (bytes r.files r.arcs) (judged (or_else fail_under r.settings.report.fail_under) r.files) a old new g in record {
+            reported = c.so;
+            put = v.1 ∙ ap (λ (q : Report). with_text name (bytes q.files q.arcs) old) c.is;
+            ended = v.0 ∙ ap (λ (q : Report). judged (or_else fail_under q.settings.report.fail_under) q.files) c.is;
+          }
+
+      of-text : (r : Report) → Goes plugin (reported data_file rcfile) old (Ok r) old → Goes plugin (put_last name (bytes r.files r.arcs) (judged (or_else fail_under r.settings.report.fail_under) r.files)) old (Ok a) new
+          → (s : Settings) × IsSet plugin rcfile old s × PutPromise first runs s.report (own_name data_file s) name bytes (or_else fail_under s.report.fail_under) old a new
+      of-text r h g =
+          let x = reported-so r h in
+          (x.0, x.1, text-so x.0 r x.2 g)
+
+      -- one that is put and did its work
+      pub put-promise : Goes plugin (bind (reported data_file rcfile) (λ r. put_last name (bytes r.files r.arcs) (judged (or_else fail_under r.settings.report.fail_under) r.files))) old (Ok a) new
+          → (s : Settings) × IsSet plugin rcfile old s × PutPromise first runs s.report (own_name data_file s) name bytes (or_else fail_under s.report.fail_under) old a new
+      put-promise h =
+          let x = quietly plugin (reported data_file rcfile) (λ r. put_last name (bytes r.files r.arcs) (judged (or_else fail_under r.settings.report.fail_under) r.files)) old new a (quiet-reported data_file rcfile) h in
+          of-text x.0 x.1 x.2

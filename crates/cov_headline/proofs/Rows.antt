@@ -1,7 +1,7 @@
 -- Worked rows, computed from the trees of their sources to the table of a report: what a run prints
 -- is what its modules mean, the jumps are those that they cross, and what is missing is what is
 -- predicted and none of these took.
-use Rattle.std.proofs.Common.{◌≡◌, ℕ, true, false, List, [], ◌∷◌, pos, negsuc, refl, ap, ◌∙◌}
+use Rattle.std.proofs.Common.{◌≡◌, ℕ, true, List, [], ◌∷◌, pos, negsuc, refl, ap, ◌∙◌}
 use Rattle.std.specs.Prelude.{ℤ, map, codes, fold}
 use Rattle.std.specs.BTreeSet.{insert_key}
 use Rattle.std.specs.Fmt.{digits}

@@ -1,5 +1,5 @@
 -- Objects that tell what they hold answer by it, where memory suffices and no fault is counted.
-use Rattle.std.proofs.Common.{◌≡◌, ◌≢◌, inl, inr, ℕ, ◌≤◌, true, false, true≢false, refl, sym, ap, subst, List, [], ◌++◌, Option, Some, None, Result, Ok, Err, arith}
+use Rattle.std.proofs.Common.{◌≡◌, ◌≢◌, inl, inr, ℕ, ◌≤◌, false, true≢false, refl, sym, ap, subst, List, [], ◌++◌, Option, Some, None, Result, Ok, Err, arith}
 use Rattle.std.specs.Prelude.{option_map}
 use Rattle.cov_outside.specs.Counts.{Rose}
 use Rattle.cov_outside.specs.declared.shelf.Shelf.{Ghosts as ShelfOf}

@@ -3,11 +3,13 @@
 --     Promise          what a command promises
 --     runs_of          the runs that it did
 --     script_of        its file, where it is a script
-use Rattle.std.specs.Prelude.{◌≡◌, ◌⊎◌, ◌||◌, [], ◌∷◌, Option, Some, None}
+use Rattle.std.specs.Prelude.{◌≡◌, ◌⊎◌, ◌||◌, [], ◌∷◌, Option, Some, None, codes}
 use Rattle.std.specs.FinMap as finite
 use Rattle.cov_contexts.specs.declared.plugins.Plugin.{Ghosts as PluginOf}
 use Rattle.cov_combine.specs.Aliases.{rules_from}
 use Rattle.cov_config.specs.Settings.{Settings}
+use Rattle.cov_json.specs.Json.{json_bytes}
+use Rattle.cov_lcov.specs.Lcov.{lcov_bytes}
 use Rattle.cov_step.specs.Calls.{Answered}
 use Rattle.cov_step.specs.Commands.{asked_by, hook_named, usual_steps}
 use Rattle.cov_step.specs.Names.{or_else}
@@ -17,7 +19,7 @@ use Rattle.cov_vault.specs.Contents.{Contents}
 use Rattle.cov_words.specs.Commands.{PlainCommand}
 use Rattle.cov_words.specs.Commands as plain
 use Rattle.cov_words.specs.Values.{Word}
-use Rattle.cov_headline.specs.Promises.{IsSet, run_of, RunPromise, CombinePromise, ReportPromise}
+use Rattle.cov_headline.specs.Promises.{IsSet, run_of, RunPromise, CombinePromise, ReportPromise, PutPromise}
 use Rattle.cov_headline.specs.Told.{Held}
 use Rattle.cov_headline.specs.Kept.{Recorded}
 use Rattle.cov_headline.specs.Suites.{suite_runs, paired, SuitePromise}
@@ -28,9 +30,9 @@ abbrev pub Loses : Contents → Contents → Type 0
 Loses old new =
     (name : Word) → (finite.get new name ≡ finite.get old name) ⊎ (finite.get new name ≡ None)
 
--- What a command promises that ended so: a run, a combine, a report and a suite by their settings,
--- a selection and verdicts of mutants by their budget, and each other that it saves no data. A report
--- knows of these runs, and of what was there at first. A script is none of these.
+-- What a command promises that ended so: a run, a combine, a report as table, JSON or LCOV and a
+-- suite by their settings, a selection and verdicts of mutants by their budget, and each other that
+-- it saves no data. A report knows of these runs, and of what was there at first. A script is none of these.
 abbrev pub Promise : {P : Type 0} → PluginOf P → Contents → Recorded → PlainCommand → Held P
     → Answered → Held P → Type 0
 Promise plugin first runs (plain.arcs budget script args) old a new =
@@ -48,9 +50,13 @@ Promise plugin first runs (plain.report show_missing fail_under data_file rcfile
     × ReportPromise first runs s.report (own_name data_file s)
     (show_missing || s.report.show_missing) (or_else fail_under s.report.fail_under) old a new
 Promise plugin first runs (plain.json name fail_under data_file rcfile) old a new =
-    Loses old.contents new.contents
+    (s : Settings) × IsSet plugin rcfile old s
+    × PutPromise first runs s.report (own_name data_file s) (or_else name (codes "coverage.json"))
+    json_bytes (or_else fail_under s.report.fail_under) old a new
 Promise plugin first runs (plain.lcov name fail_under data_file rcfile) old a new =
-    Loses old.contents new.contents
+    (s : Settings) × IsSet plugin rcfile old s
+    × PutPromise first runs s.report (own_name data_file s) (or_else name (codes "coverage.lcov"))
+    lcov_bytes (or_else fail_under s.report.fail_under) old a new
 Promise plugin first runs (plain.annotate data_file rcfile file) old a new =
     Loses old.contents new.contents
 Promise plugin first runs (plain.erase data_file rcfile) old a new = Loses old.contents new.contents

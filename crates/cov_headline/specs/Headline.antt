@@ -1,8 +1,8 @@
 -- The headline. For any list of runs, combines and reports, every run prints and ends as its
--- source's meaning says, its recorded arcs are those of that meaning, each of them is predicted or
--- crossed by a raised exception, and the report's missing lines and branches are exactly the
--- predicted ones that are neither excluded nor freed and that no combined run took, whatever the
--- order of combining. So it is of a single command too.
+-- source's meaning says, its recorded arcs are those of that meaning, and each of them is predicted
+-- or crossed by a raised exception. What a report lists as missing is exactly what no combined run
+-- took, of the statements that aren't excluded and the predicted branches that are neither excluded
+-- nor freed. The order of combining is of no matter. So it is of a single command too.
 --     CommandDone, LineDone                 a line of a script
 --     LinesKept, ScriptKept                 its lines, one after another
 --     DoneOrRefused, KeptBy, CommandKept    a command
@@ -15,10 +15,10 @@
 --             those that stood there where that was asked for
 --         a combine: the data of all inputs are saved as one, each path under its alias, and they
 --             are the same in whatever order the inputs come
---         a report: the table of the data's sources is written. A line is missing exactly where it
---             is a statement and isn't excluded, and a branch where it is predicted and neither
---             excluded nor freed, if it was taken neither by a run that the data come from nor in
---             data that were there at first
+--         a report, as a table, as JSON or as LCOV: that text of the data's sources is written or
+--             put. A line is missing exactly where it is a statement and isn't excluded, and a
+--             branch where it is predicted and neither excluded nor freed, if it was taken neither
+--             by a run that the data come from nor in data that were there at first
 --         a suite, a selection, verdicts of mutants: what is written of tests is what the modules
 --             mean, and of a suite the rows of the import and of each test are saved
 --         each other command: no data are saved

@@ -2,14 +2,17 @@
 --     IsSet, patterns_of                   settings, and the patterns that they give
 --     run_of, AddsTo, RunPromise           a run prints and ends as its source means; its data
 --     HasOwn, names_in, HasInputs, CombinePromise    data are combined, in whatever order
---     AreRead, AreMissing, ReportPromise   what a report lists as missing
-use Rattle.std.specs.Prelude.{◌≡◌, ◌≢◌, ◌⊎◌, ℕ, ◌<◌, Bool, true, false, List, [], ◌∷◌, ◌++◌, map, filter, length, Contains, Option, Some, None, option_map, Ok, ℤ}
+--     AreRead, AreMissing, Reported        what a report tells and lists as missing
+--     ReportPromise                        its table is written
+--     with_text, PutPromise                its text in another form is put under a name
+use Rattle.std.specs.Prelude.{◌≡◌, ◌≢◌, ◌⊎◌, ℕ, ◌<◌, Bool, true, false, if◌then◌else◌, List, [], ◌∷◌, ◌++◌, map, filter, length, Contains, Option, Some, None, option_map, Ok, ℤ, codes}
 use Rattle.std.specs.FinMap as finite
 use Rattle.std.specs.List.Sorted.{IsPermutation}
-use Rattle.std.specs.Str.{chars}
-use Rattle.cov_outside.specs.Files.{Files}
+use Rattle.std.specs.Str.{bytes_eq, chars}
+use Rattle.cov_outside.specs.Files.{Files, with_file}
 use Rattle.cov_contexts.specs.declared.plugins.Plugin.{Ghosts as PluginOf}
 use Rattle.py_meaning.specs.Modules.{LoadedModule}
+use Rattle.cov_analysis.specs.Analyses.{AnalysisView}
 use Rattle.cov_combine.specs.Aliases.{Rules, alias_of}
 use Rattle.cov_combine.specs.Combined.{has_both_kinds, combined}
 use Rattle.cov_config.specs.Settings.{Settings, ReportSettings}
@@ -156,23 +159,49 @@ AreMissing p d o (s ∷ rest) =
     MissingAre p.exclude p.partial s.path s.text s.body d.arcs o (analysed p d s)
     × AreMissing p d o rest
 
--- The sources of the data's paths that aren't omitted are read, and the table of them is written.
+-- What a report tells, as table, JSON or LCOV. The sources of the data's paths that aren't omitted are read.
 -- The data come from some of these runs, and from data that were there at first. What is missing is
 -- exactly what none of these took.
-pub record ReportPromise {P : Type 0} (first : Contents) (runs : Recorded) (s : ReportSettings)
-    (own : Word) (show : Bool) (least : ℕ) (old : Held P) (a : Answered) (new : Held P)
-    : Type 0 where
+pub record Reported {P : Type 0} (first : Contents) (runs : Recorded) (s : ReportSettings)
+    (own : Word) (old : Held P) : Type 0 where
   pub d : DataSet
   pub held : finite.get old.contents own ≡ Some (Good d)
   pub sources : List PlainSource
   pub paths : map (λ f. f.path) sources ≡ filter (is_reported s.omit) (paths_of d)
   pub read : AreRead old.files sources
-  pub printed : new ≡ record old {
-    out = old.out ++ text_bytes (map (analysed (patterns_of s) d) sources) d.arcs show;
-  }
-  pub ended : a ≡ judged least (map (analysed (patterns_of s) d) sources)
   pub origin : Origin
   pub is : data_of origin ≡ d
   pub of : IsOf d.arcs origin
   pub from : IsFrom first runs origin
   pub missing : AreMissing (patterns_of s) d origin sources
+
+-- The table of what is reported is written, and nothing else is changed.
+pub record ReportPromise {P : Type 0} (first : Contents) (runs : Recorded) (s : ReportSettings)
+    (own : Word) (show : Bool) (least : ℕ) (old : Held P) (a : Answered) (new : Held P)
+    : Type 0 where
+  pub reported : Reported first runs s own old
+  pub printed : new ≡ record old {
+    out =
+        old.out
+        ++ text_bytes (map (analysed (patterns_of s) reported.d) reported.sources)
+        reported.d.arcs show;
+  }
+  pub ended : a ≡ judged least (map (analysed (patterns_of s) reported.d) reported.sources)
+
+-- what is held after a text is put under a name, or written, where the name is `-`
+abbrev pub with_text : {P : Type 0} → Word → List ℕ → Held P → Held P
+with_text name bytes old =
+    if bytes_eq name (codes "-") then record old { out = old.out ++ bytes }
+    else record old { files = with_file name bytes old.files }
+
+-- The text of what is reported, with these bytes of its analyses, is put under a name, or written,
+-- where the name is `-`. Nothing else is changed.
+pub record PutPromise {P : Type 0} (first : Contents) (runs : Recorded) (s : ReportSettings)
+    (own name : Word) (bytes : List AnalysisView → Bool → List ℕ) (least : ℕ) (old : Held P)
+    (a : Answered) (new : Held P) : Type 0 where
+  pub reported : Reported first runs s own old
+  pub put :
+      new
+      ≡ with_text name
+      (bytes (map (analysed (patterns_of s) reported.d) reported.sources) reported.d.arcs) old
+  pub ended : a ≡ judged least (map (analysed (patterns_of s) reported.d) reported.sources)

@@ -14,6 +14,7 @@ ghost use Rattle.cov_streams.specs.Trials.{on_trial};
 ghost use Rattle.py_syntax.specs.Prediction.{possible};
 
 use crate::sources::{MADE_PATH, MadeSource};
+use cov_calls::USUAL_STEPS;
 use cov_event::ContextPlugin;
 use cov_measure::{Measured, RunRequest, measure};
 use cov_outside::{NullSink, SureSource};
@@ -23,9 +24,6 @@ use py_builtins::RunFault;
 use py_machine::Machine;
 use py_text::NoMemory;
 use std::alloc::Global;
-
-/// The steps that a run may take.
-const USUAL_STEPS: u64 = 1_000_000;
 
 /// Runs a source with its arcs. It reads nothing, what it writes is thrown away, and nobody gives
 /// labels.

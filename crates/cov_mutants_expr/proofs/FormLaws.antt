@@ -5,7 +5,7 @@ use Rattle.std.proofs.Common.{◌≡◌, List, [], ◌++◌, Bool, None, Result,
 use Rattle.std.specs.Result.{IsOkAnd}
 use Rattle.py_syntax.specs.declared.expr.Expr.{Expr as Node}
 use Rattle.py_syntax.specs.declared.expr.Expr.TheVariants as variant
-use Rattle.py_syntax.specs.Tree.{Expr, int, none, bool, or}
+use Rattle.py_syntax.specs.Tree.{Expr, int, none, bool}
 use Rattle.py_syntax.specs.View.{plain_expr}
 use Rattle.py_changes.specs.Mutants.{Token, around, number_change, truth_change, expr_mutants}
 use Rattle.cov_mutants_expr.specs.Search.{Reached, Copied}

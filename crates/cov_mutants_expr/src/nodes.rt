@@ -1,6 +1,6 @@
 // Nodes of expressions from their parts, and rows of these.
 
-ghost use Rattle.std.specs.Prelude.{◌≡◌, ◌++◌, [], ◌∷◌, IfOk, OnOk};
+ghost use Rattle.std.specs.Prelude.{◌≡◌, IfOk, OnOk};
 ghost use Rattle.std.specs.Result.{IsOkAnd};
 ghost use Rattle.py_syntax.specs.Tree.{str, name, exprs, pair, link, plain, format, text, field};
 ghost use Rattle.py_syntax.specs.View.{plain_expr, plain_parts};

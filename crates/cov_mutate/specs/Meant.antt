@@ -28,8 +28,9 @@ use Rattle.py_syntax.specs.View.{plain_module}
 use Rattle.py_syntax.specs.declared.stmt.Module.{Module}
 use Rattle.py_trace.specs.Traces.{AreWellFormed}
 
--- The programs are faithful code of the modules, on the same paths, and the trees are theirs. They
--- are well formed, in lines that a text may have.
+-- The programs are faithful code of the modules, on the same paths, and the trees are the bodies
+-- of these. The modules have no fault of scope, and their statements begin in lines that a text
+-- may have.
 pub record AreMutable (ps : Programs) (trees : List Module) (ms : List LoadedModule)
     : Type 0 where
   pub faithful : AreFaithful (modules_of ps) ms
@@ -38,8 +39,8 @@ pub record AreMutable (ps : Programs) (trees : List Module) (ms : List LoadedMod
   pub lines : All HasTextLines ms
   pub bodies : map plain_module trees ≡ map (λ m. m.body) ms
 
--- The import finished. Of each test it is told how it ended, and the data have the lines that the
--- import or a test reached.
+-- The import finished, and the result of each test is told. Of each module the data have exactly
+-- the lines from 1 on that the import or a test reached.
 pub record HasRun (budget : ℕ) (ms : List LoadedModule) (s : SuiteView) : Type 0 where
   pub imports : (import_of ms budget).outcome ≡ finished
   pub tests : s.tests ≡ map (λ t. t.0) (suite_of ms budget).tests

@@ -1,5 +1,5 @@
 // The tests of the unchanged programs.
-ghost use Rattle.std.specs.Prelude.{◌≡◌, ◌<◌, ◌≤◌, List, All, IsTrue, length, map};
+ghost use Rattle.std.specs.Prelude.{◌<◌, ◌≤◌, List, All, IsTrue, length, map};
 ghost use Rattle.cov_mutate.specs.Meant.{AreMutable, RanOf};
 ghost use Rattle.cov_recorder.specs.Names.{names_of};
 ghost use Rattle.cov_recorder.specs.Plan.{HaveFirsts, IsFirst, named};

@@ -1,7 +1,7 @@
 //! The lines of mutants: one for each, and then that of their counts.
 ghost use Rattle.std.specs.Prelude.{◌≡◌, IfOk, filter, length, string_bytes};
 ghost use Rattle.std.specs.Str.{chars};
-ghost use Rattle.cov_step.specs.Mutating.{count_of, is_killed, is_survivor, is_unreached, judged_line, mutant_line, mutant_lines, mutation_lines, verdict_text};
+ghost use Rattle.cov_step.specs.Mutating.{is_killed, is_survivor, is_unreached, judged_line, mutant_line, mutant_lines, mutation_lines, verdict_text};
 ghost use Rattle.cov_mutates.specs.Views.{judged_views, on_path, path_in, told_of};
 
 use cov_mutate::{Judged, MutantEnd};

@@ -14,7 +14,7 @@ ghost use Rattle.cov_verdicts.specs.Regular.{AreRegular};
 
 use crate::judging::judging;
 use crate::lines::mutation_lines;
-use cov_calls::{Answered, write_last};
+use cov_calls::{Answered, USUAL_STEPS, write_last};
 use cov_mutate::Judged;
 use cov_outside::{Shelf, Sink};
 use cov_run::Loaded;
@@ -22,9 +22,6 @@ use cov_runs::opened_as;
 use cov_why::Why;
 use py_code::Programs;
 use std::alloc::Global;
-
-/// The steps that the import and each test may take where the words name none.
-const USUAL_STEPS: u64 = 1_000_000;
 
 /// Runs the tests of the file for each mutant of its modules that they reach, and writes what they
 /// notice. What the program writes isn't written.

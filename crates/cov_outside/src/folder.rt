@@ -119,10 +119,11 @@ fn write_file(rt: &HostRuntime, alloc: Global, path: &PathBuf, bytes: &[u8]) -> 
     match fs::symlink_metadata(rt, path.as_path()) {
         Err(_) => replace_file(rt, alloc, path, bytes),
         Ok(found) if found.is_file() => replace_file(rt, alloc, path, bytes),
-        Ok(found) if found.is_symlink() => {
-            let target = fs::canonicalize(rt, path.as_path());
-            write_target(rt, alloc, path, target, bytes)
-        }
+        Ok(found) if found.is_symlink() => match fs::canonicalize(rt, path.as_path()) {
+            Ok(file) => write_target(rt, alloc, path, &file, bytes),
+            Err(error) if is_absent(&error) => fs::write(rt, path.as_path(), bytes),
+            Err(error) => Err(error),
+        },
         Ok(_) => fs::write(rt, path.as_path(), bytes),
     }
 }
@@ -132,14 +133,11 @@ fn write_target(
     rt: &HostRuntime,
     alloc: Global,
     link: &PathBuf,
-    target: io::Result<PathBuf>,
+    target: &PathBuf,
     bytes: &[u8],
 ) -> io::Result<()> {
-    if let Ok(file) = target
-        && let Ok(found) = fs::metadata(rt, file.as_path())
-        && found.is_file()
-    {
-        return replace_file(rt, alloc, &file, bytes);
+    if fs::metadata(rt, target.as_path())?.is_file() {
+        return replace_file(rt, alloc, target, bytes);
     }
     fs::write(rt, link.as_path(), bytes)
 }

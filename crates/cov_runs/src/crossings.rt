@@ -23,7 +23,7 @@ use crate::listing::listing;
 use crate::measuring::ran;
 use crate::opening::opened;
 use crate::sets::possible_sets;
-use cov_calls::{Answered, write_last};
+use cov_calls::{Answered, USUAL_STEPS, write_last};
 use cov_contexts::Plugin;
 use cov_data::Data;
 use cov_measure::{Measured, RunRequest, measure};
@@ -33,9 +33,6 @@ use cov_run::Loaded;
 use cov_why::Why;
 use py_machine::Engine;
 use std::alloc::Global;
-
-/// The steps that a run may take where the words name none.
-const USUAL_STEPS: u64 = 1_000_000;
 
 /// Runs the script with these arguments, and writes a line for each arc of its run. No hook or
 /// plugin is asked.

@@ -1,5 +1,5 @@
 -- Modules of two versions in loops, place by place.
-use Rattle.std.proofs.Common.{◌≡◌, ◌≢◌, ◌⊎◌, inl, inr, ℕ, ◌+◌, ◌<◌, ◌≤◌, min, Bool, true, false, List, [], ◌∷◌, ◌++◌, length, get_or, drop, map, refl, ap, sym, ◌∙◌, append_assoc, arith}
+use Rattle.std.proofs.Common.{◌≡◌, ◌≢◌, ◌⊎◌, inl, inr, ℕ, ◌<◌, ◌≤◌, min, Bool, true, false, List, [], ◌∷◌, ◌++◌, length, drop, map, refl, ap, sym, ◌∙◌, arith}
 use Rattle.std.specs.Prelude.{bytes_eq, encode_utf8_all, nat_lt}
 use Rattle.std.specs.Str.{chars, IsUtf8}
 use Rattle.std.proofs.Math.ListN.{drop_of_length-le}
@@ -14,7 +14,6 @@ use Rattle.py_text.proofs.SameTexts.{same_answer, same_text, same_text_from}
 use Rattle.py_text.specs.Comparison.{is_same_text}
 use Rattle.cov_select.specs.declared.modules.Version.{Version}
 use Rattle.cov_select.specs.Paths.{modules_beside, version_view, compared_by_path}
-use Rattle.cov_changed.proofs.Pairs.{the_drop}
 use Rattle.cov_select.proofs.Paths.{same-count}
 
 -- one of two lists is at its end
@@ -24,15 +23,7 @@ at-end a b i h = by_case (nat_lt i a) refl where
   by_case true e = let lt : i < a = ltb-true i a e in inr (omega arith)
   by_case false e = let le : a ≤ i = ltb-false i a e in inl le
 
--- what is made of two lists begins with what is made of their first items
-pub at-both : {X Y R : Type 0} (F : List X → List Y → R) (one : X → Y → R → R) → ((x : X) (y : Y) (xs : List X) (ys : List Y) → F (x ∷ xs) (y ∷ ys) ≡ one x y (F xs ys))
-    → (xs : List X) (ys : List Y) (i : ℕ) (x : X) (y : Y) → i < length xs → i < length ys → x ≡ get_or xs i x → y ≡ get_or ys i y
-    → F (drop i xs) (drop i ys) ≡ one x y (F (drop (i + 1) xs) (drop (i + 1) ys))
-at-both F one step xs ys i x y lt lu is js =
-    ap (λ l. F l (drop i ys)) (the_drop xs i x lt is) ∙ ap (λ l. F (x ∷ drop (i + 1) xs) l) (the_drop ys i y lu js)
-    ∙ step x y (drop (i + 1) xs) (drop (i + 1) ys)
-
--- nothing is made where one of them is at its end
+-- nothing is made of two lists where one of them is at its end
 pub ended-both : {X Y R : Type 0} (F : List X → List Y → R) (none : R) → ((ys : List Y) → F [] ys ≡ none) → ((xs : List X) → F xs [] ≡ none)
     → (xs : List X) (ys : List Y) (i : ℕ) → min (length xs) (length ys) ≤ i → F (drop i xs) (drop i ys) ≡ none
 ended-both F none first second xs ys i le = by_case (at-end (length xs) (length ys) i le) where
@@ -40,10 +31,7 @@ ended-both F none first second xs ys i le = by_case (at-end (length xs) (length 
   by_case (inl h) = ap (λ l. F l (drop i ys)) (drop_of_length-le xs h) ∙ first (drop i ys)
   by_case (inr h) = ap (λ l. F (drop i xs) l) (drop_of_length-le ys h) ∙ second (drop i xs)
 
--- a list that is made one by one has one more, and has all at the end
-pub made-more : {A : Type 0} (made more rest from all : List A) (x : A) → more ≡ made ++ x ∷ [] → from ≡ x ∷ rest → made ++ from ≡ all → more ++ rest ≡ all
-made-more made more rest from all x e f h = ap (λ l. l ++ rest) e ∙ append_assoc made (x ∷ []) rest ∙ ap (λ l. made ++ l) (sym f) ∙ h
-
+-- a list that is made one by one has all at the end
 pub made-all : {A : Type 0} (made rest all : List A) → rest ≡ [] → made ++ rest ≡ all → made ≡ all
 made-all made rest all e h = sym (append-nil made) ∙ ap (λ l. made ++ l) (sym e) ∙ h
 

@@ -1,11 +1,11 @@
 //! Two lists of modules, side by side: `are_compared`.
-ghost use Rattle.std.specs.Prelude.{◌≡◌, ◌&&◌, map, string_bytes, IfOk};
+ghost use Rattle.std.specs.Prelude.{◌≡◌, map, string_bytes, IfOk};
 ghost use Rattle.std.specs.Str.{chars};
 ghost use Rattle.py_changes.specs.Changes.{same_modules, all_fit, are_compared};
 ghost use Rattle.py_text.specs.Comparison.{is_same_text};
 ghost use Rattle.cov_select.specs.Paths.{modules_beside, version_view};
 
-use cov_changed::fits;
+use cov_changed::{fits, hold};
 use py_code::Program;
 use py_syntax::Module;
 use py_text::NoMemory;
@@ -75,11 +75,4 @@ fn all_fit(before: &[Version], after: &[Version]) -> bool
         all = hold(all, fits(before[i].tree, after[i].tree));
     }
     all
-}
-
-/// Whether both hold.
-fn hold(one: bool, other: bool) -> bool
-    ensures { result ≡ (one && other) }
-{
-    one && other
 }

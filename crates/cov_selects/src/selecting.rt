@@ -16,7 +16,7 @@ ghost use Rattle.cov_selects.specs.Views.{came_of, selection_view};
 
 use crate::choosing::{Selection, chosen_tests};
 use crate::lines::selection_lines;
-use cov_calls::{Answered, write_last};
+use cov_calls::{Answered, USUAL_STEPS, write_last};
 use cov_outside::{Shelf, Sink};
 use cov_run::Loaded;
 use cov_runs::opened_as;
@@ -24,9 +24,6 @@ use cov_suite::SuiteError;
 use cov_suites::import_failed;
 use cov_why::Why;
 use std::alloc::Global;
-
-/// The steps of the import and of each test, where the words name none.
-const USUAL_STEPS: u64 = 1_000_000;
 
 /// Runs the tests of the old file, and writes those of the new one that must run again. What the
 /// program writes isn't written.

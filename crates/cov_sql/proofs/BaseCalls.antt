@@ -3,7 +3,7 @@
 --     saves_ok, saves_err      from what `write_data` says of it
 --     empty_savable            data may be saved in a new base
 --     found_then, ok_then, err_then, on_ok, declared_after      what follows of an answer
-use Rattle.std.proofs.Common.{◌≡◌, ◌≢◌, ◌⊎◌, inl, inr, ℕ, Bool, true, false, Result, Ok, Err, IsErrOf, IfOk, OnOk, OnErr, Option, Some, refl, sym, ap, subst, ◌∙◌}
+use Rattle.std.proofs.Common.{◌≡◌, ◌≢◌, ℕ, Bool, true, false, Result, Ok, Err, IfOk, OnOk, OnErr, Option, Some, refl, sym, ap, subst, ◌∙◌}
 use Rattle.sqlite_trees.specs.declared.memory.MemStore.{MemStore}
 use Rattle.sqlite.specs.Effect.{Database}
 use Rattle.sqlite.specs.Held.{Held, state}

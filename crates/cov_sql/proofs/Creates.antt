@@ -1,5 +1,5 @@
 -- What CREATE TABLE is, under any schema.
-use Rattle.std.proofs.Common.{◌≡◌, ◌⊎◌, inl, inr, ℕ, ◌==◌, List, [], length, true, false, Option, Some, None, Ok, Err, Result, refl, sym, ap, subst, ◌∙◌}
+use Rattle.std.proofs.Common.{◌≡◌, ◌⊎◌, inl, inr, ℕ, ◌==◌, List, [], length, true, false, Option, Some, None, Ok, Err, Result, refl, sym, ◌∙◌}
 use Rattle.std.proofs.lemmas.Bool.{cases_Bool}
 use Rattle.sqlite_value.specs.Order.{Row}
 use Rattle.sqlite_ast.specs.declared.CreateTable.{CreateTable}
@@ -19,17 +19,12 @@ use Rattle.sqlite_resolve.specs.Define as define
 use Rattle.sqlite.specs.Listing.{understood}
 use Rattle.std.specs.Prelude.{slice_range}
 use Rattle.sqlite.specs.Compile.{table_defined_by}
-use Rattle.sqlite.specs.State.{State, Executes, Writes}
-use Rattle.sqlite.specs.Effect.{Database}
+use Rattle.sqlite.specs.State.{State, Executes}
 use Rattle.sqlite.specs.declared.error.Error.TheVariants.{SqlInputError}
 use Rattle.cov_sql.specs.Told.{IsAbsence}
-use Rattle.cov_sql.specs.Written.{IsMade, WasAbsent}
+use Rattle.cov_sql.specs.Written.{WasAbsent}
 use Rattle.cov_sql.proofs.Found.{either}
 use Rattle.cov_sql.proofs.Shows.{understood_as, never, no_fault}
-use Rattle.sqlite.specs.Change.{created, next_tree}
-use Rattle.sqlite_catalog.specs.Change.{KeepsRows}
-use Rattle.sqlite.specs.Does.{Tally, lacks_sequence}
-use Rattle.sqlite.proofs.Callers.{IsPlain, command_of, runs_as, statement_of}
 
 pub record IsCreate (text : List ℕ) (name : Name) (table : ℕ → Table) : Type 0 where
   pub parsed : Parsed

@@ -37,7 +37,7 @@ use Rattle.sqlite.specs.Does.{Tally}
 use Rattle.sqlite.specs.Rows.{Written}
 use Rattle.sqlite.specs.Listing.{understood}
 use Rattle.sqlite.specs.Effect.{Database}
-use Rattle.sqlite.specs.State.{State, Writes, Executes}
+use Rattle.sqlite.specs.State.{State, Executes}
 use Rattle.sqlite.proofs.Callers.{IsPlain, command_of, runs_as, one_step}
 use Rattle.cov_sql.specs.Written.{NothingActs}
 use Rattle.cov_sql.proofs.Shows.{understood_as}

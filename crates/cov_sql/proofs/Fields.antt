@@ -16,7 +16,6 @@ use Rattle.cov_tables.proofs.Permuted.{ArePermuted, content-permuted}
 use Rattle.cov_sql.specs.declared.saved.Saved.{Saved}
 use Rattle.cov_sql.specs.declared.saved.SavedRow.{SavedRow}
 use Rattle.cov_sql.specs.declared.saved.SavedBits.{SavedBits}
-use Rattle.cov_sql.specs.ByName.{shape_of}
 use Rattle.cov_sql.specs.Tables.{Shape, rows_in, coverage_schema, meta, file, context, line_bits, arc, tracer, hits}
 use Rattle.cov_sql.specs.Content.{field_of, fields_in, tables_with, tables_in, content_if, content_in}
 use Rattle.cov_sql.specs.Holding.{Rows, Holds}

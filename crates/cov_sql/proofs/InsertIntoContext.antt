@@ -27,7 +27,7 @@ use Rattle.cov_sql.specs.declared.statements.StatementError.{StatementError}
 use Rattle.cov_sql.proofs.Shows.{understood_as}
 use Rattle.cov_sql.proofs.Inserts.{IsInsert, insert_is}
 use Rattle.cov_sql.proofs.Adds.{cast_null, cast_int, went, same_value, Adds, free, put_new, put_integers}
-use Rattle.cov_sql.specs.Tables.{table_in, rows_in}
+use Rattle.cov_sql.specs.Tables.{table_in}
 use Rattle.cov_sql.specs.Tables as tables
 use Rattle.cov_sql.proofs.DeleteTexts.{same_table}
 use Rattle.cov_sql.specs.Written.{HasInteger, IsDeclared, IsAdded, Inserts, Ran}

@@ -11,7 +11,7 @@ use Rattle.sqlite_schema.specs.declared.command.Source.{Source}
 use Rattle.sqlite_schema.specs.declared.command.Command.TheVariants as command
 use Rattle.sqlite_resolve.specs.declared.compiled.Compiled.{Compiled}
 use Rattle.sqlite_resolve.specs.Scope.{Name}
-use Rattle.sqlite_resolve.specs.Compile.{first, returning, shows, timed, meaning, planned, compiled, insert_or_abort, insert, new_rows, small}
+use Rattle.sqlite_resolve.specs.Compile.{first, returning, shows, timed, meaning, planned, compiled, insert_or_abort, insert, new_rows}
 use Rattle.sqlite_resolve.specs.Compile as compile
 
 -- the text inserts one row of parameters

@@ -13,20 +13,17 @@ use Rattle.std.proofs.lemmas.Option.{same_Some}
 use Rattle.sqlite_value.specs.Order.{Row}
 use Rattle.sqlite_value.specs.declared.keys.Order.{Order}
 use Rattle.sqlite_tied.specs.Compute.{everything}
-use Rattle.sqlite_trees.specs.Tree.{Trees}
 use Rattle.sqlite_schema.specs.Names.{same_name, table_named}
-use Rattle.sqlite_schema.specs.Rules.{ParentKey, parent_key, key_in, key_places, declared_order}
+use Rattle.sqlite_schema.specs.Rules.{ParentKey, key_in, key_places, declared_order}
 use Rattle.sqlite_schema.specs.declared.schema.Keys.TheVariants.{Enforced}
 use Rattle.sqlite_schema.specs.declared.schema.Reference.{Reference}
 use Rattle.sqlite_schema.specs.declared.schema.Schema.{Schema}
 use Rattle.sqlite_schema.specs.declared.schema.Table.{Table}
 use Rattle.sqlite_rules.specs.declared.action.Deed.{Deed}
-use Rattle.sqlite_rules.specs.Action.{Work, work_by, work_for, pairs, deed_for}
-use Rattle.sqlite_catalog.specs.Change.{KeepsRows}
+use Rattle.sqlite_rules.specs.Action.{work_by, work_for, pairs, deed_for}
 use Rattle.sqlite.specs.Effect.{Database}
 use Rattle.cov_sql.specs.declared.tables.Table.{Table as Name}
 use Rattle.cov_sql.specs.declared.tables.Table.TheVariants as name
-use Rattle.cov_sql.specs.Tables.{table_in, places_in}
 use Rattle.cov_sql.specs.ByName.{shape_of, declared_as}
 use Rattle.cov_sql.specs.Written.{NothingActs, IsMade}
 use Rattle.cov_sql.specs.Holding.{IsThere}

@@ -1,5 +1,5 @@
 -- One table made after the other, and a data file without data.
-use Rattle.std.proofs.Common.{◌≡◌, ◌≢◌, IsTrue, ◌⊎◌, inl, inr, ℕ, zero, suc, ◌+◌, ◌<◌, ◌≤◌, pos, arith, eqb, leb, cond, true, false, List, [], ◌∷◌, ◌++◌, get_or, Some, slice_get, Result, Ok, Err, IsErrOf, OnOk, refl, sym, ap, subst, ◌∙◌}
+use Rattle.std.proofs.Common.{◌≡◌, ◌≢◌, IsTrue, ◌⊎◌, inl, inr, ℕ, zero, suc, ◌<◌, ◌≤◌, pos, arith, eqb, leb, cond, true, false, List, [], ◌∷◌, ◌++◌, get_or, Some, slice_get, Result, Ok, Err, OnOk, refl, sym, ap, subst, ◌∙◌}
 use Rattle.std.specs.List.{AllByRecursion}
 use Rattle.std.proofs.lemmas.Bool.Decides.{eqb_tells, leb_tells}
 use Rattle.std.proofs.lemmas.List.Sums.{fold-append}

@@ -46,7 +46,7 @@ use Rattle.cov_sql.specs.SqlTexts.{written_texts}
 use Rattle.cov_sql.specs.Works.{Step, RanAll, Reaches, NamesAbsent}
 use Rattle.cov_sql.specs.Tables.{places_in}
 use Rattle.cov_sql.specs.Making.{HasColumns}
-use Rattle.cov_sql.proofs.Shows.{understood_as, never, no_fault}
+use Rattle.cov_sql.proofs.Shows.{understood_as, never}
 use Rattle.cov_sql.proofs.Creates.{IsCreate, is_taken, never_twice, never_taken, none_absent}
 use Rattle.cov_sql.proofs.Growing.{faultless}
 use Rattle.cov_sql.proofs.RowTexts.{Sure, no_mismatch, IsRow, made as row_made, the_base, the_rows, row_is, rows_sure, row_of_coverage_schema, row_of_meta, row_of_file, row_of_context, row_of_line_bits, row_of_arc, row_of_hits}

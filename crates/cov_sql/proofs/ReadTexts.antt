@@ -1,5 +1,5 @@
 -- The statements that read the tables of data files.
-use Rattle.std.proofs.Common.{◌≡◌, ◌⊎◌, inl, inr, ℕ, List, [], codes, refl, sym, ap, ◌∙◌, false, not, Option, None, Some, is_some, Err, Ok, Result, IsErrOf}
+use Rattle.std.proofs.Common.{◌≡◌, inl, inr, ℕ, List, [], codes, refl, sym, ap, ◌∙◌, false, not, Option, None, Some, is_some, Err, Ok, Result}
 use Rattle.std.specs.List.Sorted.{IsPermutation}
 use Rattle.sqlite_value.specs.Order.{Row}
 use Rattle.sqlite_trees.specs.Tree.{Trees}
@@ -21,7 +21,6 @@ use Rattle.cov_sql.proofs.Selects.{Spends}
 use Rattle.cov_sql.proofs.Found.{AreOrdinary}
 use Rattle.cov_sql.proofs.Shows.{Verdict, no_column, mistyped, reads, verdict, never, no_fault, gives_rows, misses, Reading}
 use Rattle.cov_sql.specs.declared.statements.StatementError.{StatementError}
-use Rattle.cov_sql.specs.declared.statements.StatementError.TheVariants.{Missing}
 use Rattle.cov_sql.specs.Told.{Lists, EndsAs, Reads, Answers, IsAbsence}
 use Rattle.cov_sql.specs.Shown.{IsAsked, NeverReturns, StopsAs, ShowsTable, IsMissing, HasNamed, AsksFor, CommitsAsking}
 

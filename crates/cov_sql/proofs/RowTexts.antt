@@ -3,7 +3,7 @@
 --     IsRow                  a text inserts one row of parameters in the columns of a table
 --     made, row_is           what it is where the table is there; it is so, or refused
 --     rows_sure              its rows are refused for no name
-use Rattle.std.proofs.Common.{◌≡◌, ◌⊎◌, inl, inr, ℕ, ◌+◌, ◌==◌, List, [], ◌∷◌, ◌++◌, map, length, slice_get, Bool, true, false, ◌&&◌, is_some, Option, Some, None, option_map, option_and_then, Result, Ok, Err, if◌then◌else◌, refl, sym, ap, subst, ◌∙◌}
+use Rattle.std.proofs.Common.{◌≡◌, inl, inr, ℕ, ◌+◌, ◌==◌, List, [], ◌∷◌, ◌++◌, length, slice_get, Bool, true, false, ◌&&◌, is_some, Option, Some, None, option_map, option_and_then, Ok, Err, if◌then◌else◌, refl, sym, subst}
 use Rattle.sqlite_ast.specs.declared.Expr.{Expr}
 use Rattle.sqlite_ast.specs.declared.Rows.TheVariants as rows
 use Rattle.sqlite_ast.specs.declared.Conflict.TheVariants as conflict
@@ -18,10 +18,8 @@ use Rattle.sqlite_schema.specs.declared.command.Source.{Source}
 use Rattle.sqlite_schema.specs.declared.command.Command.TheVariants as command
 use Rattle.sqlite_typing.specs.Types.{accepts_terms}
 use Rattle.sqlite_resolve.specs.declared.compiled.Compiled.{Compiled}
-use Rattle.sqlite_resolve.specs.declared.error.CompileError.{CompileError}
 use Rattle.sqlite_resolve.specs.declared.error.CompileError.TheVariants.{Mismatch, Misuse, Unsupported}
 use Rattle.sqlite_resolve.specs.declared.state.State.{State}
-use Rattle.sqlite_resolve.specs.declared.write.NewRows.{NewRows}
 use Rattle.sqlite_resolve.specs.declared.write.NewRows.TheVariants.{Values}
 use Rattle.sqlite_resolve.specs.Lowering.{Checked, and_then, fresh, max_budget}
 use Rattle.sqlite_resolve.specs.Scope.{Name}
@@ -29,7 +27,7 @@ use Rattle.sqlite_resolve.specs.Body.{all}
 use Rattle.sqlite_resolve.specs.Expr.{lower}
 use Rattle.sqlite_resolve.specs.Select.{outermost}
 use Rattle.sqlite_resolve.specs.Write.{place, place_among, with_place, places_from, places, leaves_computed, cells_from, given_or, row, value_row, value_rows, values, inserted}
-use Rattle.sqlite_resolve.specs.Compile.{first, returning, shows, timed, formats_of, meaning, planned, compiled, insert_or_abort, insert, new_rows, source_of, small}
+use Rattle.sqlite_resolve.specs.Compile.{first, returning, shows, timed, meaning, planned, compiled, insert_or_abort, insert, new_rows, source_of, small}
 use Rattle.sqlite_resolve.specs.Compile as compile
 use Rattle.sqlite_tied.specs.Compute.{everything}
 use Rattle.std.proofs.Common.{codes}

@@ -6,14 +6,14 @@ use Rattle.std.proofs.Common.{◌≡◌, ◌≢◌, ℕ, ◌+◌, ◌<◌, arith
 use Rattle.std.specs.declared.cmp.Ordering.{Ordering}
 use Rattle.std.specs.List.Sorted.{IsSorted}
 use Rattle.std.proofs.lemmas.List.{get_or-map, length-map}
-use Rattle.std.specs.FinMap.{get, insert, remove}
+use Rattle.std.specs.FinMap.{get, insert}
 use Rattle.cov_data.specs.DataSet.{Text, DataSet}
 use Rattle.cov_vault.specs.declared.vault.Content.{Content}
 use Rattle.cov_vault.specs.declared.vault.Content.TheVariants as content
 use Rattle.cov_vault.specs.declared.vault.VaultError.{VaultError}
 use Rattle.cov_vault.specs.declared.vault.VaultError.TheVariants.{Absent, NotSchema7, BadRow, Failed, NoMemory}
 use Rattle.cov_vault.specs.Contents.{Contents}
-use Rattle.cov_vault.specs.Answers.{refusal_of, IsLoaded, IsSaved, IsRemoved}
+use Rattle.cov_vault.specs.Answers.{refusal_of, IsLoaded, IsSaved}
 
 pub told_load : (held : Option Content) (r : Result DataSet VaultError) → IfOk r (λ d. held ≡ Some (content.Good d)) → (IsErrOf r Absent → held ≡ None) → (IsErrOf r NotSchema7 → held ≡ Some content.NotSchema7)
     → ((row : ℕ) → IsErrOf r (BadRow row) → held ≡ Some (content.BadRow row)) → IsLoaded held r

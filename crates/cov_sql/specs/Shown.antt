@@ -1,7 +1,7 @@
 -- What the text of a query answers, in cells.
 --     ShowsCells               the rows that it shows
 --     IsRefusedAsAbsent        it was refused, since a table or a column isn't there
---     IsAsked                  it was asked, with or without an answer
+--     IsAsked                  it was asked, with or without an answer, or no memory was left
 --     NeverReturns, StopsAs    it is no write that shows what it wrote; why its rows end early
 --     ShowsTable, IsMissing    what a query answers; what is answered in place of a table that isn't
 --                              there

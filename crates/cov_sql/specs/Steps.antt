@@ -5,7 +5,7 @@
 --                  leave before, and the transaction holds the same connection
 use Rattle.std.specs.Prelude.{◌≡◌, ℕ, Result, IsErrOf}
 use Rattle.sqlite_trees.specs.declared.store.Store.{Ghosts}
-use Rattle.sqlite.specs.Held.{Held, state}
+use Rattle.sqlite.specs.Held.{Held}
 use Rattle.sqlite.specs.declared.transaction.Transaction.{Transaction}
 use Rattle.cov_sql.specs.declared.statements.StatementError.{StatementError}
 use Rattle.cov_sql.specs.declared.errors.SqlError.{SqlError}

@@ -7,7 +7,7 @@
 --     coverage_schema, meta, file, context,
 --     line_bits, arc, tracer   the tables of schema 7
 --     hits                     the table of counts
-use Rattle.std.specs.Prelude.{ℕ, List, [], ◌∷◌, map, Option, Some, None, option_map, option_and_then, slice_get, codes}
+use Rattle.std.specs.Prelude.{ℕ, List, [], ◌∷◌, map, Option, Some, option_map, option_and_then, slice_get, codes}
 use Rattle.sqlite_value.specs.Order.{Row, column}
 use Rattle.sqlite_schema.specs.Names.{table_named, column_named, place_of}
 use Rattle.sqlite_schema.specs.declared.schema.Table.{Table}

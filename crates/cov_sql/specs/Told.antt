@@ -15,7 +15,7 @@ use Rattle.cov_sql.specs.declared.statements.StatementError.TheVariants.{Missing
 use Rattle.cov_sql.specs.Tables.{Shape, rows_in}
 use Rattle.cov_sql.specs.Cells.{AreRowsIn}
 
--- rows as lists of cells
+-- rows, each by its cells
 abbrev pub Lists : Type 0
 Lists = Vec RowCells Global
 
@@ -23,7 +23,8 @@ Lists = Vec RowCells Global
 abbrev pub EndsAs : State → State → Type 0
 EndsAs old new = IsUnchanged old new ⊎ IsRolledBack old new
 
--- a statement gives the rows of its table, or tells that it is missing
+-- A statement gave the rows of its table, or its table is missing, and nothing changed. Else it
+-- was refused, and a transaction may have been undone.
 pub record Answers (t : Shape) (old new : State) (r : Result Lists StatementError) : Type 0 where
   pub rows : IfOk r (λ lists. AreRowsIn t old.now lists.items)
   pub missing : IsErrOf r Missing → rows_in t old.now ≡ None

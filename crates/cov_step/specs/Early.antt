@@ -103,7 +103,8 @@ abbrev pub is_late : (Refusal → Bool) → PlainWhy → Bool
 is_late late (Ok ended) = true
 is_late late (Err refusal) = late refusal
 
--- A command of one text is refused by the others before it runs or writes anything.
+-- A command of one text is refused by the others before it runs anything on its objects or
+-- writes anything.
 abbrev pub EarlyLaw : Type 0
 EarlyLaw =
     (c : PlainCommand) → has_one_text c ≡ true

@@ -15,9 +15,10 @@ pub fn quiet()
     ensures { QuietLaw }
 {}
 
-/// A command but a script is refused before it runs or writes anything. What may come later are
-/// faults, want of memory, a save of a run or of a suite whose target isn't of schema 7, and an
-/// import of tests that failed. It does nothing when it runs.
+/// A command but a script is refused before it runs anything on its objects or writes anything.
+/// What may come later are faults, want of memory, and a save of a run or of a suite whose target
+/// isn't of schema 7; and of `suite` alone that its import failed, which runs on its objects too.
+/// It does nothing when it runs.
 pub fn refuses_early()
     ensures { EarlyLaw }
 {}

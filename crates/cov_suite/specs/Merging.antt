@@ -17,7 +17,8 @@ merged_at a xs after [] = a ∷ xs
 merged_at a xs after (b ∷ ys) =
     match_ordering (line_cmp a b) (a ∷ after (b ∷ ys)) (a ∷ after ys) (b ∷ merged_at a xs after ys)
 
--- the lines of two lists, each once: at each step the first of the two that come next
+-- The lines of two lists: at each step the first of the two that come next, and one for both where
+-- they are the same.
 abbrev pub merged : List Line → List Line → List Line
 merged [] ys = ys
 merged (a ∷ xs) ys = merged_at a xs (merged xs) ys

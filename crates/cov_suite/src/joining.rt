@@ -3,7 +3,6 @@ ghost use Rattle.std.specs.Prelude.{◌≡◌, IfOk};
 ghost use Rattle.cov_data.specs.DataSet.{union};
 
 use cov_data::{Data, NoMemory};
-use std::alloc::Global;
 
 /// The paths and rows of both. The time is that of the rows that are added.
 pub(crate) fn add_data(all: Data, other: &Data) -> Result<Data, NoMemory>

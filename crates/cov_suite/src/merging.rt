@@ -27,8 +27,9 @@ fn push_all(more: &[(String, u32)], lines: &mut Vec<(String, u32)>) -> Result<()
     Ok(())
 }
 
-/// The lines of two lists, each once. Where both lists are in order, by path and then by number,
-/// so is this one.
+/// The lines of two lists: at each step the first of the two that come next, and one for both where
+/// they are the same. Where both lists rise, by path and then by number, so does this one, with
+/// each line once.
 pub(crate) fn merged(
     alloc: Global,
     left: &[(String, u32)],

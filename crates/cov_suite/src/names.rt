@@ -5,7 +5,7 @@ ghost use Rattle.py_code.specs.Units.{plain_unit};
 ghost use Rattle.py_compile.specs.ProgramRuns.{AreFaithful};
 ghost use Rattle.py_meaning.specs.Modules.{LoadedModule};
 ghost use Rattle.py_syntax.specs.Names.{add_name};
-ghost use Rattle.cov_suite.specs.Tests.{is_test, test_names, def_units, tests_of, tests_of_code};
+ghost use Rattle.cov_suite.specs.Tests.{is_test, test_names, tests_of, tests_of_code};
 
 use indexmap::IndexSet;
 use py_code::{Programs, Unit};

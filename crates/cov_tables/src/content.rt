@@ -4,7 +4,7 @@ ghost use Rattle.std.specs.List.{fold, list_any};
 ghost use Rattle.std.specs.Option.{option_to_list};
 ghost use Rattle.cov_data.specs.DataSet.{with_path};
 ghost use Rattle.cov_tables.specs.Fields.{row, rows, text_at};
-ghost use Rattle.cov_tables.specs.Content.{is_schema_7, names_arcs, says_arcs, is_arcs, paths_in, paths_only, unless_bad, arc_content, bits_content, content};
+ghost use Rattle.cov_tables.specs.Content.{is_schema_7, names_arcs, says_arcs, is_arcs, paths_only, unless_bad, arc_content, bits_content, content};
 ghost use Rattle.cov_tables.specs.Given.{tables};
 
 use crate::adding::add_entries;

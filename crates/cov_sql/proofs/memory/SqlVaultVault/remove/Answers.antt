@@ -1,5 +1,4 @@
-use Rattle.std.proofs.Common.{rules, arith, refl, ap, sym, subst, ◌∙◌, ◌≡◌, All}
-use Rattle.std.specs.Prelude.{filter}
+use Rattle.std.proofs.Common.{rules, arith, refl, ap, sym, subst, ◌∙◌, All}
 use Rattle.std.proofs.lemmas.Fn.{filter_same}
 use Rattle.cov_sql.specs.Bases.{IsIdle, kept_in, IsAsDeclared, AreAsDeclared, bases_contents}
 use Rattle.cov_sql.proofs.BaseContents.{is_another, bases_absent, bases_held, bases_removed, each_filter, idle_filter}
