@@ -214,8 +214,9 @@ def main():
         tell(title, wrong, "; ".join(told))
         if disk:
             subprocess.run(["umount", top], check=True)
-            if os.path.exists(ELSEWHERE):
-                os.remove(ELSEWHERE)
+            for beside in ("", *BESIDE):
+                if os.path.exists(ELSEWHERE + beside):
+                    os.remove(ELSEWHERE + beside)
         shutil.rmtree(top)
     top = tempfile.mkdtemp(prefix="files-")
     for name, text in (("a.py", A), ("long.py", "for k in range(9999):\n    print(k * 1000000)\n"), ("reads.py", "input()\n"), ("raises.py", "print(1)\nraise ValueError('x' * 9000)\n")):

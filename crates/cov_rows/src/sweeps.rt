@@ -1,6 +1,5 @@
 //! One session, in which one call of one object fails: each call in turn, until the session meets
-//! no fault. It is done command by command, and once more as a script. A script whose last line is
-//! refused is tried so too.
+//! no fault. It is done command by command, and once more as a script.
 
 use crate::harness::{Failing, NONE, World, shelf_of};
 use crate::sources::FIRST_RUN;
@@ -31,12 +30,6 @@ static COMMANDS: [&str; 7] = [
 ];
 
 const JOIN: &str = "combine --data-file=c";
-
-/// A script whose last line is refused.
-const REFUSED: &str = "run --branch a.py\nreport\nerase\nreport\n";
-
-/// What it says on `err`.
-const REFUSAL: &str = "coverage: no data .coverage\n";
 
 /// The numbers of the calls that fail.
 static CALLS: [&[u64]; 28] = [
@@ -112,7 +105,6 @@ fn world_of(alloc: Global, failing: Failing) -> Result<World, AllocError> {
             ("a.py", FIRST_RUN),
             ("asks.py", "print(input())\n"),
             ("s.txt", lines.as_str()),
-            ("r.txt", REFUSED),
         ],
     )?;
     let mut contents = Vec::new(alloc);
@@ -227,53 +219,6 @@ fn script_stopped_by(rt: &impl Abort, alloc: Global, object: Object) -> Result<u
         }
     }
     Ok(CALLS.len())
-}
-
-/// Whether the call stops the script before its refused line. The answer is the object's fault
-/// then, and a prefix of the output is written.
-fn stops_refused(
-    rt: &impl Abort,
-    alloc: Global,
-    object: Object,
-    call: &'static [u64],
-) -> Result<bool, Fail> {
-    let mut sure = world_of(alloc, NONE)?;
-    let whole = sure.answer(alloc, "script r.txt", "")?;
-    assert_eq!(rt; whole.status, 1);
-    assert_eq!(rt; whole.err.as_str(), REFUSAL);
-    let mut world = world_of(alloc, failing(object, call))?;
-    let found = world.answer(alloc, "script r.txt", "")?;
-    let is_prefix = whole.out.as_str().starts_with(found.out.as_str());
-    assert!(rt; is_prefix, "a prefix is written");
-    if found.status == 1 {
-        assert_eq!(rt; found.err.as_str(), REFUSAL);
-        assert_eq!(rt; found.out.as_str(), whole.out.as_str());
-        return Ok(false);
-    }
-    assert_eq!(rt; found.status, 74);
-    assert_eq!(rt; found.err.as_str(), fault_of(object));
-    Ok(true)
-}
-
-/// How many calls stop the script with a refused line, one after the other.
-fn refused_stopped_by(rt: &impl Abort, alloc: Global, object: Object) -> Result<usize, Fail> {
-    for (at, call) in CALLS.iter().enumerate() {
-        if !stops_refused(rt, alloc, object, *call)? {
-            return Ok(at);
-        }
-    }
-    Ok(CALLS.len())
-}
-
-#[test]
-fn calls_of_a_script_with_a_refused_line(rt: HostRuntime) -> Result<(), Fail> {
-    let input = refused_stopped_by(&rt, rt.alloc(), Object::Input)?;
-    assert_eq!(&rt; input, 0, "nothing reads");
-    for object in [Object::Shelf, Object::Vault, Object::Out] {
-        let count = refused_stopped_by(&rt, rt.alloc(), object)?;
-        assert!(&rt; 0 < count && count < CALLS.len(), "{count}");
-    }
-    Ok(())
 }
 
 #[test]
