@@ -6,8 +6,8 @@ use Rattle.std.proofs.lemmas.List.{length-map}
 use Rattle.std.proofs.lemmas.List.Elements.{All-map, All-tail, All-weaker}
 use Rattle.py_syntax.specs.Marks.{statement_lines}
 use Rattle.py_syntax.specs.Tree.{Stmts}
-use Rattle.py_lines.specs.Lines.{IsLine}
-use Rattle.py_lines.proofs.Laws.{lines_law}
+use Rattle.py_line_laws.specs.Lines.{IsLine}
+use Rattle.py_line_laws.proofs.Laws.{lines_law}
 use Rattle.cov_analysis.specs.Counts.{IsCounted, numbers_of}
 use Rattle.cov_analysis.specs.Lines.{is_among, AreLines, IsOfText}
 use Rattle.cov_analysis.specs.Branches.{branches_of, is_covered}

@@ -4,7 +4,7 @@ use Rattle.std.specs.Prelude.{slice_get}
 use Rattle.std.proofs.lemmas.List.Elements.{All-nil, All-cons, All-head, All-tail}
 use Rattle.cov_outside.specs.declared.shelf.ShelfError.{ShelfError}
 use Rattle.py_changes.specs.Texts.{IsText, RegularTexts}
-use Rattle.py_lines.specs.Lines.{IsLine, LinesLaw}
+use Rattle.py_line_laws.specs.Lines.{IsLine, LinesLaw}
 use Rattle.py_meaning.specs.Modules.{LoadedModule, body_of}
 use Rattle.py_syntax.specs.Marks.{statement_lines}
 use Rattle.py_syntax.specs.Tree.{Text}

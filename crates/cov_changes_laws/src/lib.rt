@@ -6,7 +6,7 @@ ghost use Rattle.cov_changes_laws.specs.LoadedChanges.{LoadedAreRegular};
 
 use cov_outside::Shelf;
 use py_changes::regular_texts;
-use py_lines::lines_of_texts;
+use py_line_laws::lines_of_texts;
 
 /// In the modules of a loaded program whose script marks a line, each `if` has a test and no `def`
 /// stands in a function. Their statement lines are from 1 on.

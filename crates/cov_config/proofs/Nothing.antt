@@ -3,7 +3,7 @@ use Rattle.std.proofs.Common.{◌≡◌, List, [], ◌∷◌, codes, false, None
 use Rattle.std.specs.Str.{is_utf8, chars}
 use Rattle.toml.specs.Parse.{parse_document, lines, skip_bom}
 use Rattle.toml_parser.specs.Lexical.{skip_from}
-use Rattle.cov_forms.specs.Forms.{Text}
+use Rattle.cov_file_names.specs.Forms.{Text}
 use Rattle.cov_config.specs.Settings.{Settings, no_cover, no_branch, meaning_of, defaults}
 
 -- an empty file sets nothing

@@ -9,7 +9,7 @@ use Rattle.std.specs.String.{string_cmp}
 use Rattle.toml.specs.Data.{Data, Members, no_members, member}
 use Rattle.toml.specs.View.{members_view}
 use Rattle.toml.specs.declared.value.Value.{Value}
-use Rattle.cov_forms.specs.Forms.{Text}
+use Rattle.cov_file_names.specs.Forms.{Text}
 use Rattle.cov_config.specs.Settings.{placed, in_order}
 
 -- each name is below the next one

@@ -2,7 +2,7 @@
 use Rattle.std.proofs.Common.{◌≡◌, Result, Err, ap, sym, ◌∙◌}
 use Rattle.cov_config.specs.declared.config.ConfigError.{ConfigError}
 use Rattle.cov_config.specs.declared.config.ConfigError.TheVariants.{BadConfig, NoMemory}
-use Rattle.cov_forms.specs.Forms.{Text}
+use Rattle.cov_file_names.specs.Forms.{Text}
 use Rattle.cov_config.specs.Plain.{Answers, Names}
 
 -- the error that names the key is the answer where the key is bad

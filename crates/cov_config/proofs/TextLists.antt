@@ -4,7 +4,7 @@ use Rattle.std.proofs.lemmas.List.{length-map}
 use Rattle.std.specs.Option.{option_and_then}
 use Rattle.std.specs.List.{list_any}
 use Rattle.toml.specs.Data.{Data}
-use Rattle.cov_forms.specs.Forms.{Text, is_empty}
+use Rattle.cov_file_names.specs.Forms.{Text, is_empty}
 use Rattle.cov_config.specs.Forms.{texts, rule_texts}
 
 list_any-map : {A : Type 0} (p : Text → Bool) (f : A → Text) (xs : List A) → list_any p (map f xs) ≡ list_any (λ x. p (f x)) xs

@@ -1,7 +1,7 @@
 -- A pattern with a `*` more at its front or back.
 use Rattle.std.proofs.Common.{◌≡◌, Bool, cond, eqb, [], ◌++◌, codes, ap, ◌∙◌, append_assoc}
 use Rattle.std.specs.List.{starts_with, ends_with}
-use Rattle.cov_forms.specs.Forms.{Text}
+use Rattle.cov_file_names.specs.Forms.{Text}
 use Rattle.cov_config.specs.Omits.{widened}
 
 pub widened-is : (text front pattern back : Text) (s e : Bool) → s ≡ starts_with eqb pattern (codes "*/") → e ≡ ends_with eqb pattern (codes "/*")

@@ -6,7 +6,7 @@ use Rattle.std.specs.Prelude.{ℕ, ℤ, pos, negsuc, nat_le, Bool, true, ◌||�
 use Rattle.std.specs.List.{list_any}
 use Rattle.std.specs.Str.{bytes_eq}
 use Rattle.toml.specs.Data.{Data, Items, no_items, item, as_str, as_integer, as_array}
-use Rattle.cov_forms.specs.Forms.{Text, is_empty, file_and_name}
+use Rattle.cov_file_names.specs.Forms.{Text, is_empty, file_and_name}
 
 -- an absent key has its default
 abbrev pub or_default : {A : Type 0} → A → (Data → Option A) → Option Data → Option A

@@ -6,7 +6,7 @@
 use Rattle.std.specs.Prelude.{ℕ, Bool, true, false, ◌&&◌, ◌||◌, ◌==◌, nat_eq, if◌then◌else◌, List, [], ◌∷◌, ◌++◌, codes}
 use Rattle.std.specs.List.{slice_split, starts_with, ends_with}
 use Rattle.std.specs.Str.{bytes_eq, chars}
-use Rattle.cov_forms.specs.Forms.{Text}
+use Rattle.cov_file_names.specs.Forms.{Text}
 
 -- some end of the list passes: the list itself, what follows its first element, and so on to []
 abbrev pub some_end : {A : Type 0} → (List A → Bool) → List A → Bool

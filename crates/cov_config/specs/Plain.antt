@@ -4,7 +4,7 @@ use Rattle.std.specs.declared.alloc.Global.{Global}
 use Rattle.cov_config.specs.declared.config.Config.{Config}
 use Rattle.cov_config.specs.declared.config.ConfigError.{ConfigError}
 use Rattle.cov_config.specs.declared.config.ConfigError.TheVariants.{BadConfig, NoMemory}
-use Rattle.cov_forms.specs.Forms.{Text}
+use Rattle.cov_file_names.specs.Forms.{Text}
 use Rattle.cov_config.specs.Settings.{Settings}
 
 -- the bytes of texts

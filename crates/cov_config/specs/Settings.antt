@@ -12,7 +12,7 @@ use Rattle.std.specs.Ordering.{nat_cmp, is_lt}
 use Rattle.std.specs.Str.{is_utf8}
 use Rattle.toml.specs.Data.{Data, Members, no_members, member, get, get_member, as_bool, as_str, as_table}
 use Rattle.toml.specs.Parse.{parse_document}
-use Rattle.cov_forms.specs.Forms.{Text}
+use Rattle.cov_file_names.specs.Forms.{Text}
 use Rattle.cov_config.specs.Forms.{or_default, filled, test_function, up_to, hook_text, texts, rule_texts}
 
 -- `tool.coverage.SECTION`. What is no table has no keys

@@ -3,7 +3,7 @@ ghost use Rattle.std.specs.Prelude.{◌≡◌, map, string_bytes, option_map, If
 ghost use Rattle.std.specs.List.{list_any};
 ghost use Rattle.toml.specs.View.{view, array_view};
 ghost use Rattle.cov_config.specs.Forms.{texts_in, texts, rule_texts};
-ghost use Rattle.cov_forms.specs.Forms.{is_empty};
+ghost use Rattle.cov_file_names.specs.Forms.{is_empty};
 ghost use Rattle.cov_config.specs.Plain.{texts_view};
 
 use crate::NoMemory;

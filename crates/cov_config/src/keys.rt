@@ -8,7 +8,7 @@ ghost use Rattle.cov_config.specs.Plain.{Answers, Names, hook_view, texts_view};
 
 use crate::forms::{owned_texts, texts_of};
 use crate::{ConfigError, NoMemory};
-use cov_forms::file_and_name;
+use cov_file_names::file_and_name;
 use std::alloc::Global;
 use toml::{Table, Value};
 

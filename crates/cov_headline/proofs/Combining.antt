@@ -33,7 +33,7 @@ use Rattle.cov_step.specs.Commands.{combined_into, combine_by, combine}
 use Rattle.cov_step.specs.Names.{data_name, is_named, removable}
 use Rattle.cov_step.specs.Phases.{needed, before, settings, own_name, inputs, is_part_of, has_own, own_input, some_input, same_kind, saving, removing, removing_all, done}
 use Rattle.cov_headline.specs.Commands.{Loses}
-use Rattle.cov_headline.specs.Promises.{IsSet, HasOwn, names_in, HasInputs, CombinePromise}
+use Rattle.cov_headline.specs.Promises.{IsSet, HasOwn, names_with_data, HasInputs, CombinePromise}
 use Rattle.cov_headline.specs.Told.{Held}
 use Rattle.cov_headline.proofs.Going.{Goes, is_quiet, went, quietly, gave, quiet-settings, quiet-before, quiet-needed, quiet-inputs, quiet-own_input, quiet-some_input, quiet-same_kind}
 use Rattle.cov_headline.proofs.Reporting.{needed-so}
@@ -185,7 +185,7 @@ module _ {P : Type 0} (plugin : PluginOf P) where
   listed-so own (Err e) names old u new is (inl s) = absurd s.wanting
   listed-so own (Err e) names old u new is (inr (bad, same)) = absurd (ok_no_err bad)
 
-  names-so : (own : Word) (named names : List Word) (old new : Held P) → Goes plugin (inputs own named) old (Ok names) new → names ≡ names_in own named old.contents
+  names-so : (own : Word) (named names : List Word) (old new : Held P) → Goes plugin (inputs own named) old (Ok names) new → names ≡ names_with_data own named old.contents
   names-so own (n ∷ ns) names old new h = (gave plugin (map data_name (n ∷ ns)) names old new h).0
   names-so own [] names old new (inl s) = absurd s.wanting
   names-so own [] names old new (inr (x, u, m, rest)) = listed-so own x names old u new m.0 rest
@@ -209,7 +209,7 @@ module _ {P : Type 0} (plugin : PluginOf P) where
   -- ---- a combine that did its work
 
   module _ (own : Word) (rules : Rules) (append keep : Bool) (named : List Word) (old : Held P) (a : Answered) (new : Held P) where
-    by-combined : (others : List Word) (first : List DataSet) → others ≡ names_in own named old.contents → HasOwn append (finite.get old.contents own) first → (0 < length first) ⊎ (0 < length others) → Goes plugin (combined_into own rules keep others first) old (Ok a) new
+    by-combined : (others : List Word) (first : List DataSet) → others ≡ names_with_data own named old.contents → HasOwn append (finite.get old.contents own) first → (0 < length first) ⊎ (0 < length others) → Goes plugin (combined_into own rules keep others first) old (Ok a) new
         → CombinePromise own rules append named old a new
     by-combined others first are has some h =
         let k = quietly plugin (each needed others) (λ rest. bind (same_kind (first ++ rest)) (λ all. bind (saving own (combined (alias_of rules) all)) (λ a. bind (removing_all keep (removable own [] others)) (λ b. give done)))) old new a (each-keeps is_quiet needed quiet-needed others) h in
@@ -226,7 +226,7 @@ module _ {P : Type 0} (plugin : PluginOf P) where
             → (u.contents ≡ finite.insert old.contents own (Good (combined (alias_of rules) ds))) × (u ≡ record old { contents = u.contents })
         sub {all = all} {ds = ds} {u = u} e s = (s.0 ∙ ap (λ x. finite.insert old.contents own (Good (combined (alias_of rules) x))) e, s.1)
 
-        finish : (others : List Word) (first rest : List DataSet) → others ≡ names_in own named old.contents → HasOwn append (finite.get old.contents own) first → (0 < length first) ⊎ (0 < length others) → HasInputs old.contents others rest → has_both_kinds (first ++ rest) ≡ false
+        finish : (others : List Word) (first rest : List DataSet) → others ≡ names_with_data own named old.contents → HasOwn append (finite.get old.contents own) first → (0 < length first) ⊎ (0 < length others) → HasInputs old.contents others rest → has_both_kinds (first ++ rest) ≡ false
             → (u v : Held P) → (u.contents ≡ finite.insert old.contents own (Good (combined (alias_of rules) (first ++ rest)))) × (u ≡ record old { contents = u.contents }) → Gone own u v → (a ≡ done) × (new ≡ v)
             → CombinePromise own rules append named old a new
         finish others first rest are has some inputs one u v saved gone end =

@@ -33,7 +33,7 @@ use Rattle.cov_suite.specs.Tests.{tests_of}
 use Rattle.cov_headline.specs.Commands.{Loses, Promise, runs_of}
 use Rattle.cov_headline.specs.Kept.{Recorded, IsFrom, AreFrom, AreKept}
 use Rattle.cov_headline.specs.Origins.{PlainRun, Origin, found, ran, joined, united, Origins, no_more, and_of, data_of, datas_of, IsRecorded, IsOf, AreOf}
-use Rattle.cov_headline.specs.Promises.{patterns_of, run_of, AddsTo, RunPromise, HasOwn, HasInputs, names_in, CombinePromise, with_text, PutPromise}
+use Rattle.cov_headline.specs.Promises.{patterns_of, run_of, AddsTo, RunPromise, HasOwn, HasInputs, names_with_data, CombinePromise, with_text, PutPromise}
 use Rattle.cov_headline.specs.Suites.{import_run, test_run, suite_runs, AreRecorded, paired, SuitePromise}
 use Rattle.cov_headline.specs.Told.{Held}
 use Rattle.cov_headline.proofs.Joining.{combined-kind}
@@ -208,7 +208,7 @@ module _ {P : Type 0} (plugin : PluginOf P) (first : Contents) (runs : Recorded)
     where
       by : (name ≡ own) ⊎ (name ≢ own) → (o : Origin) × (data_of o ≡ d) × IsOf d.arcs o × IsFrom first runs o
       by (inl same) =
-          let all = with-own old.contents append own p.first p.rest p.has_own (inputs-held old.contents (names_in own named old.contents) p.rest p.has_rest) in
+          let all = with-own old.contents append own p.first p.rest p.has_own (inputs-held old.contents (names_with_data own named old.contents) p.rest p.has_rest) in
           let x = combined-origin first runs old.contents k (flag_of (p.first ++ p.rest)) rules (p.first ++ p.rest) p.some all (same-kind (flag_of (p.first ++ p.rest)) (p.first ++ p.rest) p.one_kind) in
           let is : combined (alias_of rules) (p.first ++ p.rest) ≡ d = good-same (some-same (sym p.saved ∙ ap (λ n. finite.get new.contents n) (sym same) ∙ e)) in
           (x.0, x.1 ∙ is, subst (λ (y : DataSet). IsOf y.arcs x.0) is x.2, x.3)

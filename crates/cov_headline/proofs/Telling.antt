@@ -10,7 +10,7 @@ use Rattle.cov_contexts.specs.declared.plugins.Plugin.{Ghosts as PluginOf}
 use Rattle.cov_exclude.specs.declared.maker.Maker.{Ghosts as MakerOf}
 use Rattle.py_builtins.specs.declared.fault.RunFault.{RunFault}
 use Rattle.py_builtins.specs.declared.fault.RunFault.TheVariants as run_fault
-use Rattle.py_machine.specs.Told.{Heard}
+use Rattle.py_machine.specs.Told.{OnInput}
 use Rattle.py_machine.specs.declared.engine.Engine.{Ghosts as EngineOf}
 use Rattle.py_meaning.specs.Modules.{LoadedModule}
 use Rattle.py_meaning.specs.Program.{run_modules}
@@ -337,7 +337,7 @@ module _ {H V M I O P G E : Type 0} (shelf : ShelfOf H) (vault : VaultOf V) (mak
     at-streams s = record r { left = source.left s.input; out = sink.contents s.out; plugins = s.plugins }
 
     -- what is heard of a source that tells is what it has
-    heard-so : (Q : List ℕ → List ℕ → Type 0) → Heard source.tells (source.left u.input) (source.left v.input) Q → Q (source.left u.input) (source.left v.input)
+    heard-so : (Q : List ℕ → List ℕ → Type 0) → OnInput source.tells (source.left u.input) (source.left v.input) Q → Q (source.left u.input) (source.left v.input)
     heard-so Q h =
         let same = h.told ts in
         subst (λ a. Q a (source.left v.input)) same.0 (subst (λ b. Q h.input b) same.1 (h.holds h.input h.rest h.fed))
@@ -348,8 +348,8 @@ module _ {H V M I O P G E : Type 0} (shelf : ShelfOf H) (vault : VaultOf V) (mak
     ran-as asked ms hook before after q bi ai bo ao m =
         let Q : List ℕ → List ℕ → Type 0 = λ all rest. MeasuredAs plugin asked ms (sources_of hook before.plugins asked.by_name) (run_modules ms asked.words all asked.budget) (ended_of q) after.plugins (λ bytes. sink.tells → sink.contents after.out ≡ sink.contents before.out ++ bytes) rest in
         let S : List ℕ → List ℕ → Type 0 = λ all rest. HasRunSteps (tree_plan ms asked.arcs asked.context) ms (run_modules ms asked.words all asked.budget).items q.rows in
-        let move = λ (W : List ℕ → List ℕ → Type 0) (h : Heard source.tells (source.left before.input) (source.left after.input) W).
-        heard-so W (subst (λ a. Heard source.tells (source.left a) (source.left v.input) W) bi (subst (λ b. Heard source.tells (source.left before.input) (source.left b) W) ai h)) in
+        let move = λ (W : List ℕ → List ℕ → Type 0) (h : OnInput source.tells (source.left before.input) (source.left after.input) W).
+        heard-so W (subst (λ a. OnInput source.tells (source.left a) (source.left v.input) W) bi (subst (λ b. OnInput source.tells (source.left before.input) (source.left b) W) ai h)) in
         let e = move Q (m.ended tf) in record {
           ended = record {
             outcome = e.outcome;

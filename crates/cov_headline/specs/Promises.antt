@@ -1,7 +1,7 @@
 -- What a run, a combine and a report promise, over what the objects hold (`Held` of Told).
 --     IsSet, patterns_of                   settings, and the patterns that they give
 --     run_of, AddsTo, RunPromise           a run prints and ends as its source means; its data
---     HasOwn, names_in, HasInputs, CombinePromise    data are combined, in whatever order
+--     HasOwn, names_with_data, HasInputs, CombinePromise    data are combined, in whatever order
 --     AreRead, AreMissing, Reported        what a report tells and lists as missing
 --     ReportPromise                        its table is written
 --     with_text, PutPromise                its text in another form is put under a name
@@ -111,9 +111,9 @@ HasOwn append held [] = (append ≡ false) ⊎ (held ≡ None)
 HasOwn append held (d ∷ ds) = (append ≡ true) × (held ≡ Some (Good d)) × (ds ≡ [])
 
 -- the names that the words name, or else all parts of the data file
-abbrev pub names_in : (own : Word) (named : List Word) → Contents → List Word
-names_in own [] held = filter (is_part_of own) (finite.keys held)
-names_in own (n ∷ ns) held = map data_name (n ∷ ns)
+abbrev pub names_with_data : (own : Word) (named : List Word) → Contents → List Word
+names_with_data own [] held = filter (is_part_of own) (finite.keys held)
+names_with_data own (n ∷ ns) held = map data_name (n ∷ ns)
 
 -- the data of these names
 abbrev pub HasInputs : Contents → List Word → List DataSet → Type 0
@@ -130,7 +130,7 @@ pub record CombinePromise {P : Type 0} (own : Word) (rules : Rules) (append : Bo
   pub first : List DataSet
   pub rest : List DataSet
   pub has_own : HasOwn append (finite.get old.contents own) first
-  pub has_rest : HasInputs old.contents (names_in own named old.contents) rest
+  pub has_rest : HasInputs old.contents (names_with_data own named old.contents) rest
   pub some : 0 < length (first ++ rest)
   pub one_kind : has_both_kinds (first ++ rest) ≡ false
   pub saved : finite.get new.contents own

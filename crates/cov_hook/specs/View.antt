@@ -10,8 +10,8 @@ use Rattle.py_code.specs.declared.code.Program.{Program}
 use Rattle.py_code.specs.declared.code.Programs.{Programs}
 use Rattle.py_code.specs.Loaded.{modules_of}
 use Rattle.py_code.specs.Programs.{Reply}
-use Rattle.py_store.specs.declared.store.Store.{Store}
-use Rattle.py_store.specs.Stores.{world_of, word}
+use Rattle.py_world.specs.declared.store.Store.{Store}
+use Rattle.py_world.specs.Stores.{world_of, word}
 use Rattle.cov_hook.specs.declared.asking.Asked.{Asked}
 use Rattle.cov_hook.specs.declared.hook.Hook.{Hook}
 use Rattle.cov_hook.specs.Questions.{label_of, world_after_call}

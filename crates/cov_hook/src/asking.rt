@@ -3,7 +3,7 @@ ghost use Rattle.std.specs.Prelude.{◌≡◌, ◌<◌, ◌≤◌, length, IfOk,
 ghost use Rattle.py_value.specs.View.{plain, plains};
 ghost use Rattle.py_code.specs.Loaded.{modules_of, most_numbered};
 ghost use Rattle.py_machine.specs.Outcomes.{plain_called};
-ghost use Rattle.py_store.specs.Stores.{world_of};
+ghost use Rattle.py_world.specs.Stores.{world_of};
 ghost use Rattle.cov_hook.specs.Questions.{asking, label_in, label_of, texts, world_after_call};
 ghost use Rattle.cov_hook.specs.View.{world_in, Gives};
 

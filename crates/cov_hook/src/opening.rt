@@ -4,7 +4,7 @@ ghost use Rattle.py_code.specs.Loaded.{modules_of, most_numbered};
 ghost use Rattle.py_code.specs.Programs.{run, first_world};
 ghost use Rattle.py_code.specs.Slots.{by_slots};
 ghost use Rattle.py_machine.specs.Outcomes.{plain_outcome};
-ghost use Rattle.py_store.specs.Stores.{world_of};
+ghost use Rattle.py_world.specs.Stores.{world_of};
 ghost use Rattle.cov_hook.specs.States.{opening, world_after_body, most_steps};
 ghost use Rattle.cov_hook.specs.View.{path_of, world_in};
 

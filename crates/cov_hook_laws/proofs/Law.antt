@@ -7,7 +7,7 @@ use Rattle.py_compile.specs.Laws.{UnitsAreFaithful}
 use Rattle.py_compile.specs.ProgramRuns.{AreFaithful, as_run, as_reply}
 use Rattle.py_meaning.specs.Modules.{LoadedModule}
 use Rattle.py_syntax.specs.Tree.{Text}
-use Rattle.py_trace.specs.Traces.{AreWellFormed, TracesKept}
+use Rattle.py_compile_laws.specs.Traces.{AreWellFormed, TracesKept}
 use Rattle.cov_hook.specs.Questions.{texts, asking, label_of, world_after_call, AnswersOn, GivesUp}
 use Rattle.cov_hook.specs.States.{HookState, with_world, most_steps, opening, opened, world_after_body}
 use Rattle.cov_hook_laws.specs.Laws.{with_trees, HooksMean}

@@ -4,7 +4,7 @@ use Rattle.py_code.specs.Units.{Module}
 use Rattle.py_compile.specs.ProgramRuns.{AreFaithful}
 use Rattle.py_meaning.specs.Modules.{LoadedModule}
 use Rattle.py_syntax.specs.Tree.{Text}
-use Rattle.py_trace.specs.Traces.{AreWellFormed}
+use Rattle.py_compile_laws.specs.Traces.{AreWellFormed}
 use Rattle.cov_hook.specs.Functions.{Defines}
 use Rattle.cov_hook.specs.Questions.{Answers, GivesUp}
 use Rattle.cov_hook.specs.States.{HookState, opened}

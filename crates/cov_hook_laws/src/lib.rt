@@ -5,7 +5,7 @@
 ghost use Rattle.cov_hook_laws.specs.Laws.{HooksMean};
 
 use py_compile::units_are_faithful;
-use py_trace::traces_kept;
+use py_compile_laws::traces_kept;
 
 /// A hook of faithful code begins and answers as its trees mean it, and has the functions that
 /// these define.

@@ -13,7 +13,7 @@ use Rattle.cov_combine.specs.Combined.{combined, has_both_kinds}
 use Rattle.cov_config.specs.Settings.{Settings, defaults}
 use Rattle.cov_data.specs.DataSet.{DataSet}
 use Rattle.cov_data.proofs.FileViews.{text_cmp_total}
-use Rattle.cov_forms.specs.Forms.{Text}
+use Rattle.cov_file_names.specs.Forms.{Text}
 use Rattle.cov_programs.specs.Ends.{Ends}
 use Rattle.cov_programs.specs.Laws.{OnlyKeeps, Parted}
 use Rattle.cov_programs.specs.Objects.{Moves, beside}

@@ -2,7 +2,7 @@
 use Rattle.std.proofs.Common.{Bool, true, false, if◌then◌else◌, List, [], ◌∷◌, ◌++◌}
 use Rattle.cov_combine.specs.Combined.{has_both_kinds}
 use Rattle.cov_data.specs.DataSet.{DataSet}
-use Rattle.cov_forms.specs.Forms.{Text}
+use Rattle.cov_file_names.specs.Forms.{Text}
 use Rattle.cov_programs.specs.Ends.{IsOpen}
 use Rattle.cov_programs.specs.Programs.{give, bind, each}
 use Rattle.cov_programs.proofs.Each.{each-open, then-open}

@@ -6,7 +6,7 @@ use Rattle.std.specs.Prelude.{◌≡◌, ◌≢◌, ◌⊎◌, Bool, true, false
 use Rattle.std.specs.FinMap.{get}
 use Rattle.cov_config.specs.Settings.{Settings}
 use Rattle.cov_data.specs.DataSet.{DataSet}
-use Rattle.cov_forms.specs.Forms.{Text}
+use Rattle.cov_file_names.specs.Forms.{Text}
 use Rattle.cov_outside.specs.declared.shelf.Shelf.{Ghosts as ShelfOf}
 use Rattle.cov_programs.specs.Ends.{Follows}
 use Rattle.cov_programs.specs.Objects.{beside}

@@ -7,7 +7,7 @@ use Rattle.cov_combine.specs.Aliases.{alias_of, rules_from}
 use Rattle.cov_combine.specs.Combined.{combined}
 use Rattle.cov_data.specs.DataSet.{DataSet}
 use Rattle.cov_programs.specs.Programs.{give, ◌>>=◌, each}
-use Rattle.cov_forms.specs.Forms.{Text}
+use Rattle.cov_file_names.specs.Forms.{Text}
 use Rattle.cov_step.specs.Answers.{Before, given_or, vault_refusal}
 use Rattle.cov_step.specs.Calls.{Answered, Step}
 use Rattle.cov_step.specs.Names.{removable}

@@ -5,7 +5,7 @@ use Rattle.std.proofs.lemmas.List.Elements.{All-nil, All-cons}
 use Rattle.cov_outside.specs.declared.shelf.ShelfError.{ShelfError}
 use Rattle.py_code.specs.declared.code.Program.{Program}
 use Rattle.py_code.specs.Loaded.{modules_of, most_numbered}
-use Rattle.py_lines.specs.Lines.{LinesLaw}
+use Rattle.py_line_laws.specs.Lines.{LinesLaw}
 use Rattle.py_meaning.specs.Modules.{LoadedModule}
 use Rattle.cov_recorder.specs.Plan.{HaveFirsts}
 use Rattle.cov_recorder_laws.specs.Laws.{HasTextLines}

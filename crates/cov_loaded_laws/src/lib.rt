@@ -6,7 +6,7 @@ ghost use Rattle.cov_loaded_laws.specs.Loaded.{LoadedHaveTextLines, LoadedLaw};
 
 use cov_measure_laws::units_of_programs;
 use cov_outside::Shelf;
-use py_lines::lines_of_texts;
+use py_line_laws::lines_of_texts;
 
 /// The modules of a loaded program are in lines that a text may have.
 pub fn loaded_have_text_lines<H: Shelf>()

@@ -14,7 +14,7 @@ use Rattle.cov_measure.specs.Measures.{sources_of}
 use Rattle.cov_measure_laws.specs.Meant.{meant_hook}
 use Rattle.cov_measure_laws.specs.Whole.{IsDataOf, TellsAll}
 use Rattle.cov_recorder.specs.Asking.{asks}
-use Rattle.cov_recorder.specs.Labels.{IsLabel, Labelled, question}
+use Rattle.cov_recorder.specs.Labels.{GetsLabel, Labelled, question}
 use Rattle.cov_recorder.specs.Plan.{Named, Plan}
 use Rattle.cov_recorder.specs.Recording.{Open, after, label_now}
 use Rattle.cov_streams.specs.Trials.{no_labels}
@@ -44,8 +44,8 @@ module _ {P : Type 0} (plugin : PluginOf P) where
       )
 
   of-label : (outer : Option (List ℕ)) (names : Option Named) (label : Option (List ℕ))
-      (new : Sources MeantHook P) → IsLabel Asks outer names nobody label new
-      → IsLabel no_labels outer names tt label tt × (new ≡ nobody)
+      (new : Sources MeantHook P) → GetsLabel Asks outer names nobody label new
+      → GetsLabel no_labels outer names tt label tt × (new ≡ nobody)
   of-label (Some outer) names label new h = ((h.0, refl), h.1)
   of-label None None label new h = ((h.0, refl), h.1)
   of-label None (Some unit) label new h = no-label unit.module unit.function label new h

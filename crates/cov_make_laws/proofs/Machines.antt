@@ -1,6 +1,6 @@
 -- The machine ends a source as its meaning does.
 use Rattle.std.proofs.Common.{arith, ap, ◌∙◌}
-use Rattle.py_trace.specs.Traces.{TracesKept}
+use Rattle.py_compile_laws.specs.Traces.{TracesKept}
 use Rattle.cov_make_laws.specs.Endings.{MadeFinishOnMachine}
 use Rattle.cov_make_laws.specs.Loadings.{module_alone}
 use Rattle.cov_make_laws.proofs.Trees.{tree_well_formed}

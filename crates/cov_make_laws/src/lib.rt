@@ -6,9 +6,9 @@ ghost use Rattle.cov_make_laws.specs.Endings.{MadeFinish, MadeFinishByDefault, M
 ghost use Rattle.cov_make_laws.specs.Loadings.{MadeAreAlone, MadeAreLoaded};
 ghost use Rattle.cov_make_laws.specs.Readings.{MadeAreRead, MadeAreReadable};
 
+use py_compile_laws::traces_kept;
 use py_parse::one_tree;
 use py_token::one_spelling;
-use py_trace::traces_kept;
 
 /// The source of each seed and size spells a tree within the limits, which is well formed.
 pub fn made_are_readable()

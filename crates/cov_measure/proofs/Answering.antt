@@ -10,7 +10,7 @@ use Rattle.cov_outside.specs.declared.sink.Sink.{Ghosts as SinkOf}
 use Rattle.cov_outside.specs.declared.source.Source.{Ghosts as SourceOf}
 use Rattle.py_builtins.specs.declared.fault.RunFault.{RunFault}
 use Rattle.py_builtins.specs.Inputs.{Wrote}
-use Rattle.py_machine.specs.Told.{Heard}
+use Rattle.py_machine.specs.Told.{OnInput}
 use Rattle.py_meaning.specs.Modules.{LoadedModule}
 use Rattle.py_meaning.specs.Program.{run_modules}
 use Rattle.cov_hook_laws.specs.MeantHooks.{MeantHook}
@@ -40,7 +40,7 @@ lent-sources {A} {P} hook lent plugins by_name e s is = is ∙ ap (λ (v : Vec P
 module _ {I O P : Type 0} (source : SourceOf I) (sink : SinkOf O) (plugin : PluginOf P) (asked : Asked) (ms : List LoadedModule) (i0 i1 : I) (o0 o1 : O) (plugins : List P) where
   abbrev EndsSo : Sources MeantHook P → Ended → Type 0
   EndsSo old m =
-      Heard source.tells (source.left i0) (source.left i1)
+      OnInput source.tells (source.left i0) (source.left i1)
       (λ all rest. MeasuredAs plugin asked ms old (run_modules ms asked.words all asked.budget) m plugins (Wrote sink.tells (sink.contents o0) (sink.contents o1)) rest)
 
   pub ended-so : (r : Result Measured RunFault) (old new : Sources MeantHook P) → old ≡ new → IfOk r (λ m. EndsSo old (plain_measured m)) → IfOk (plain_answer r) (EndsSo new)

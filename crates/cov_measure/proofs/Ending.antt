@@ -9,15 +9,15 @@ use Rattle.cov_data.specs.DataSet.{Text as Bytes, DataSet}
 use Rattle.py_code.specs.declared.code.Programs.{Programs}
 use Rattle.py_machine.specs.declared.outcome.Ran.{Ran}
 use Rattle.py_machine.specs.Outcomes.{plain_outcome}
-use Rattle.py_machine.specs.Told.{Heard, HeardSome}
+use Rattle.py_machine.specs.Told.{OnInput, OnInputUntil}
 use Rattle.py_meaning.specs.Activations.{Items}
 use Rattle.py_meaning.specs.Modules.{LoadedModule}
 use Rattle.py_meaning.specs.Program.{run_modules}
-use Rattle.py_sound.specs.Sound.{IsProper}
+use Rattle.py_prediction_laws.specs.Sound.{IsProper}
 use Rattle.py_syntax.specs.Marks.{statement_lines}
 use Rattle.py_syntax.specs.Prediction.{Arc}
 use Rattle.py_syntax.specs.Tree.{Text}
-use Rattle.py_trace.specs.Traces.{AreWellFormed}
+use Rattle.py_compile_laws.specs.Traces.{AreWellFormed}
 use Rattle.cov_hook.specs.States.{HookState}
 use Rattle.cov_recorder.specs.Plan.{Named, IsFirst, Plan, plan_with, plan_of}
 use Rattle.cov_recorder.specs.Recording.{Recording, at_first}
@@ -61,15 +61,15 @@ pub begun : (us vs : List (List Named)) → us ≡ vs → (sets : List (List Arc
 begun us vs e sets arcs f g same r is = is ∙ (λ i. at_first (plan_of (e i) sets arcs (same i)))
 
 -- what holds of every input that agrees with what was read
-pub heard-as : (tells : Type 0) (before after : List ℕ) (P Q : List ℕ → List ℕ → Type 0) → ((all rest : List ℕ) → P all rest → Q all rest) → Heard tells before after P → Heard tells before after Q
+pub heard-as : (tells : Type 0) (before after : List ℕ) (P Q : List ℕ → List ℕ → Type 0) → ((all rest : List ℕ) → P all rest → Q all rest) → OnInput tells before after P → OnInput tells before after Q
 heard-as tells before after P Q f h = record { heard = h.heard; input = h.input; rest = h.rest; fed = h.fed; told = h.told; holds = λ all rest fed. f all rest (h.holds all rest fed) }
 
 module _ {A P : Type 0} (plugin : PluginOf P) (asked : Asked) (ms hs : List LoadedModule) (code : A → HookState) (sources : Sources A P) where
   -- what such a run comes to
   pub ended : (ws : List Text) → ws ≡ asked.words → (ran : Ran) (m : Ended) (plugins : List P) (from : Sources A P) (new : Recording × Sources A P) (tells : Type 0) (before after : List ℕ) (wrote : List ℕ → Type 0)
       → from ≡ sources → m.outcome ≡ plain_outcome ran.outcome → m.steps ≡ ran.steps → m.rows ≡ new.0.data → plugins ≡ new.1.plugins
-      → Heard tells before after (λ all rest. RanMeasured plugin ms hs asked.arcs asked.context code from new.1 (run_modules ms ws all asked.budget) ran new.0.data wrote rest)
-      → Heard tells before after (λ all rest. MeasuredAs plugin asked ms (meant_sources code hs sources) (run_modules ms asked.words all asked.budget) m plugins wrote rest)
+      → OnInput tells before after (λ all rest. RanMeasured plugin ms hs asked.arcs asked.context code from new.1 (run_modules ms ws all asked.budget) ran new.0.data wrote rest)
+      → OnInput tells before after (λ all rest. MeasuredAs plugin asked ms (meant_sources code hs sources) (run_modules ms asked.words all asked.budget) m plugins wrote rest)
   ended ws same ran m plugins from new tells before after wrote of outcome steps rows left given =
       heard-as tells before after _ _
       (λ all rest is. record {
@@ -82,7 +82,7 @@ module _ {A P : Type 0} (plugin : PluginOf P) (asked : Asked) (ms hs : List Load
         out = is.out;
         left = is.left;
       })
-      (subst (λ vs. Heard tells before after (λ all rest. RanMeasured plugin ms hs asked.arcs asked.context code from new.1 (run_modules ms vs all asked.budget) ran new.0.data wrote rest)) same given)
+      (subst (λ vs. OnInput tells before after (λ all rest. RanMeasured plugin ms hs asked.arcs asked.context code from new.1 (run_modules ms vs all asked.budget) ran new.0.data wrote rest)) same given)
 
 -- the steps of a plan, by the trees of its modules
 as-trees : (us vs : List (List Named)) → us ≡ vs → (sets : List (List Arc)) (arcs : Bool) (fixed : Bytes) (ms : List LoadedModule) (items : Items) (d : DataSet)
@@ -92,18 +92,18 @@ as-trees us vs e sets arcs fixed ms items d h =
     (record { all = record { arcs = h.all.arcs; lines = h.all.lines }; foreseen = record { arcs = h.foreseen.arcs; lines = h.foreseen.lines } })
 
 pub stepped : UnitsLaw → (ps : Programs) (sets : List (List Arc)) (ms : List LoadedModule) (asked : Asked) → AreMeasured ps sets ms → (ws : List Text) → ws ≡ asked.words → (d e : DataSet) → e ≡ d → (tells : Type 0) (before after : List ℕ)
-    → Heard tells before after (λ all rest. HasRunSteps (plan_of (program_units ps.modules.items) sets asked.arcs asked.context) ms (run_modules ms ws all asked.budget).items d)
-    → Heard tells before after (λ all rest. HasRunSteps (tree_plan ms asked.arcs asked.context) ms (run_modules ms asked.words all asked.budget).items e)
+    → OnInput tells before after (λ all rest. HasRunSteps (plan_of (program_units ps.modules.items) sets asked.arcs asked.context) ms (run_modules ms ws all asked.budget).items d)
+    → OnInput tells before after (λ all rest. HasRunSteps (tree_plan ms asked.arcs asked.context) ms (run_modules ms asked.words all asked.budget).items e)
 stepped units ps sets ms asked are ws same d e found tells before after given =
     heard-as tells before after _ _
     (λ all rest is. subst (λ (x : DataSet). HasRunSteps (tree_plan ms asked.arcs asked.context) ms (run_modules ms asked.words all asked.budget).items x) (sym found)
     (as-trees (program_units ps.modules.items) (tree_units ms) (units.same ps ms are.faithful are.paths) sets asked.arcs asked.context ms (run_modules ms asked.words all asked.budget).items d is))
-    (subst (λ vs. Heard tells before after (λ all rest. HasRunSteps (plan_of (program_units ps.modules.items) sets asked.arcs asked.context) ms (run_modules ms vs all asked.budget).items d)) same given)
+    (subst (λ vs. OnInput tells before after (λ all rest. HasRunSteps (plan_of (program_units ps.modules.items) sets asked.arcs asked.context) ms (run_modules ms vs all asked.budget).items d)) same given)
 
 -- a first part of an output, under equal words
 pub some-output : (ms : List LoadedModule) (ws vs : List Text) → ws ≡ vs → (budget : ℕ) (tells : Type 0) (before after : List ℕ) (said : Type 0) (o0 o1 : List ℕ)
-    → HeardSome tells before after (λ all. GainsSome said o0 o1 (run_modules ms ws all budget).out) → HeardSome tells before after (λ all. GainsSome said o0 o1 (run_modules ms vs all budget).out)
-some-output ms ws vs same budget tells before after said o0 o1 h = subst (λ us. HeardSome tells before after (λ all. GainsSome said o0 o1 (run_modules ms us all budget).out)) same h
+    → OnInputUntil tells before after (λ all. GainsSome said o0 o1 (run_modules ms ws all budget).out) → OnInputUntil tells before after (λ all. GainsSome said o0 o1 (run_modules ms vs all budget).out)
+some-output ms ws vs same budget tells before after said o0 o1 h = subst (λ us. OnInputUntil tells before after (λ all. GainsSome said o0 o1 (run_modules ms us all budget).out)) same h
 
 -- ---- whoever told the events
 

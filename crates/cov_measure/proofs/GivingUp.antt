@@ -12,11 +12,11 @@ use Rattle.py_code.specs.Slots.{by_slots}
 use Rattle.py_compile.specs.ProgramRuns.{AreFaithful, as_run}
 use Rattle.py_machine.specs.declared.outcome.Ran.{Ran}
 use Rattle.py_machine.specs.Runs.{IsRun, StopsRun}
-use Rattle.py_machine.specs.Told.{Heard, HeardSome}
+use Rattle.py_machine.specs.Told.{OnInput, OnInputUntil}
 use Rattle.py_meaning.specs.Modules.{LoadedModule}
 use Rattle.py_meaning.specs.Program.{run_modules}
 use Rattle.py_syntax.specs.Tree.{Text}
-use Rattle.py_trace.specs.Traces.{AreWellFormed, TracesKept}
+use Rattle.py_compile_laws.specs.Traces.{AreWellFormed, TracesKept}
 use Rattle.cov_measure.specs.Measuring.{GainsSome}
 use Rattle.cov_measure.proofs.Meaning.{same-length}
 
@@ -25,7 +25,7 @@ gains-all old new whole e = record { front = whole; prefix = record { rest = [];
 
 module _ (ms : List LoadedModule) (words : List Text) (budget : ℕ) (tells : Type 0) (before after : List ℕ) (said : Type 0) (o0 o1 : List ℕ) where
   abbrev Some : Type 0
-  Some = HeardSome tells before after (λ all. GainsSome said o0 o1 (run_modules ms words all budget).out)
+  Some = OnInputUntil tells before after (λ all. GainsSome said o0 o1 (run_modules ms words all budget).out)
 
   pub nothing_yet : after ≡ before → o1 ≡ o0 → Some
   nothing_yet same none = record {
@@ -44,9 +44,9 @@ module _ (ms : List LoadedModule) (words : List Text) (budget : ℕ) (tells : Ty
     one : (all : List ℕ) → StopsRun took said o0 o1 (modules_of ps) (machine.first_world (modules_of ps) words) budget all → GainsSome said o0 o1 (run_modules ms words all budget).out
     one all h t = subst (λ (r : machine.Run). GainsPrefix o0 o1 r.out) (is_meant all) (h.wrote t)
 
-    pub stopped : (w : World) → w ≡ machine.first_world (modules_of ps) words → HeardSome tells before after (StopsRun took said o0 o1 (modules_of ps) w budget) → Some
+    pub stopped : (w : World) → w ≡ machine.first_world (modules_of ps) words → OnInputUntil tells before after (StopsRun took said o0 o1 (modules_of ps) w budget) → Some
     stopped w e given =
-        let h = subst (λ x. HeardSome tells before after (StopsRun took said o0 o1 (modules_of ps) x budget)) e given in
+        let h = subst (λ x. OnInputUntil tells before after (StopsRun took said o0 o1 (modules_of ps) x budget)) e given in
         record { heard = h.heard; input = h.input; rest = h.rest; fed = h.fed; told = h.told; holds = λ all rest fed. one all (h.holds all rest fed) }
 
     -- a run that ended
@@ -54,9 +54,9 @@ module _ (ms : List LoadedModule) (words : List Text) (budget : ℕ) (tells : Ty
         → GainsSome said o0 o1 (run_modules ms words input budget).out
     all ran left input rest h t = gains-all o0 o1 (run_modules ms words input budget).out (subst (λ (r : machine.Run). Wrote said o0 o1 r.out) (is_meant input) h.written t)
 
-    pub ended : (w left : World) (ran : Ran) → w ≡ machine.first_world (modules_of ps) words → Heard tells before after (IsRun took (Wrote said o0 o1) (modules_of ps) w budget ran left) → Some
+    pub ended : (w left : World) (ran : Ran) → w ≡ machine.first_world (modules_of ps) words → OnInput tells before after (IsRun took (Wrote said o0 o1) (modules_of ps) w budget ran left) → Some
     ended w left ran e given =
-        let h = subst (λ x. Heard tells before after (IsRun took (Wrote said o0 o1) (modules_of ps) x budget ran left)) e given in
+        let h = subst (λ x. OnInput tells before after (IsRun took (Wrote said o0 o1) (modules_of ps) x budget ran left)) e given in
         record {
           heard = h.heard;
           input = h.input;

@@ -15,12 +15,12 @@ use Rattle.py_code.specs.Units.{Module}
 use Rattle.py_compile.specs.ProgramRuns.{AreFaithful, as_run}
 use Rattle.py_machine.specs.declared.outcome.Ran.{Ran}
 use Rattle.py_machine.specs.Runs.{IsRun}
-use Rattle.py_machine.specs.Told.{Heard}
+use Rattle.py_machine.specs.Told.{OnInput}
 use Rattle.py_meaning.specs.Events.{events_in}
 use Rattle.py_meaning.specs.Modules.{LoadedModule}
 use Rattle.py_meaning.specs.Program.{run_modules}
 use Rattle.py_syntax.specs.Tree.{Text}
-use Rattle.py_trace.specs.Traces.{TracesKept}
+use Rattle.py_compile_laws.specs.Traces.{TracesKept}
 use Rattle.cov_hook.specs.States.{HookState}
 use Rattle.cov_recorder.specs.Asking.{asks, SourcesLeft}
 use Rattle.cov_recorder.specs.Labels.{IsNext, IsRefused}
@@ -76,10 +76,10 @@ module _ {S A P : Type 0} (hook : HookOf A) (plugin : PluginOf P) (state : S →
   }
 
   pub measured : (tells : Type 0) (before after : List ℕ) (wrote : List ℕ → Type 0) (ran : Ran) (w left : World) → w ≡ first
-      → Heard tells before after (IsRun (λ es. Takes moves old es new) wrote (modules_of ps) w budget ran left)
-      → Heard tells before after (λ all rest. RanMeasured plugin ms hs arcs fixed code (state old).1 (state new).1 (run_modules ms words all budget) ran (state new).0.data wrote rest)
+      → OnInput tells before after (IsRun (λ es. Takes moves old es new) wrote (modules_of ps) w budget ran left)
+      → OnInput tells before after (λ all rest. RanMeasured plugin ms hs arcs fixed code (state old).1 (state new).1 (run_modules ms words all budget) ran (state new).0.data wrote rest)
   measured tells before after wrote ran w left e given =
-      let h = subst (λ x. Heard tells before after (IsRun (λ es. Takes moves old es new) wrote (modules_of ps) x budget ran left)) e given in
+      let h = subst (λ x. OnInput tells before after (IsRun (λ es. Takes moves old es new) wrote (modules_of ps) x budget ran left)) e given in
       record { heard = h.heard; input = h.input; rest = h.rest; fed = h.fed; told = h.told; holds = λ all rest fed. one wrote ran left all rest (h.holds all rest fed) }
 
 module _ {S C : Type 0} (asks : C → Bytes → Bytes → Option (List ℕ) → C → Type 0) (state : S → Recording × C) (plan : Plan) (old new : S) (first : (state old).0 ≡ at_first plan) where
@@ -104,10 +104,10 @@ module _ {S C : Type 0} (asks : C → Bytes → Bytes → Option (List ℕ) → 
         }
 
     pub stepped : (tells : Type 0) (before after : List ℕ) (wrote : List ℕ → Type 0) (ran : Ran) (w left : World) → w ≡ machine.first_world (modules_of ps) words
-        → Heard tells before after (IsRun (λ es. Takes steps old es new) wrote (modules_of ps) w budget ran left)
-        → Heard tells before after (λ all rest. HasRunSteps plan ms (run_modules ms words all budget).items (state new).0.data)
+        → OnInput tells before after (IsRun (λ es. Takes steps old es new) wrote (modules_of ps) w budget ran left)
+        → OnInput tells before after (λ all rest. HasRunSteps plan ms (run_modules ms words all budget).items (state new).0.data)
     stepped tells before after wrote ran w left e given =
-        let h = subst (λ x. Heard tells before after (IsRun (λ es. Takes steps old es new) wrote (modules_of ps) x budget ran left)) e given in
+        let h = subst (λ x. OnInput tells before after (IsRun (λ es. Takes steps old es new) wrote (modules_of ps) x budget ran left)) e given in
         record { heard = h.heard; input = h.input; rest = h.rest; fed = h.fed; told = h.told; holds = λ all rest fed. run-steps wrote ran left all rest (h.holds all rest fed) }
 
 -- whoever told the events

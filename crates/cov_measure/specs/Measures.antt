@@ -13,7 +13,7 @@ use Rattle.py_builtins.specs.declared.fault.RunFault.{RunFault}
 use Rattle.py_builtins.specs.declared.fault.RunFault.TheVariants.{ReadFault, WriteFault}
 use Rattle.py_builtins.specs.Inputs.{Wrote}
 use Rattle.py_machine.specs.declared.engine.Engine.{Ghosts as EngineOf}
-use Rattle.py_machine.specs.Told.{Heard, HeardSome}
+use Rattle.py_machine.specs.Told.{OnInput, OnInputUntil}
 use Rattle.py_meaning.specs.Modules.{LoadedModule}
 use Rattle.py_meaning.specs.Program.{Run, run_modules}
 use Rattle.cov_hook_laws.specs.MeantHooks.{MeantHook}
@@ -62,16 +62,16 @@ pub record MeasureOf {I O P G : Type 0} (source : SourceOf I) (sink : SinkOf O)
     (ms : List LoadedModule) (hook : Option MeantHook) (answer : Result Ended RunFault)
     (new : Streams I O P G) : Type 0 where
   pub ended : engine.faithful
-      → IfOk answer (λ m. Heard source.tells (source.left old.input) (source.left new.input)
+      → IfOk answer (λ m. OnInput source.tells (source.left old.input) (source.left new.input)
       (λ all rest. MeasuredAs plugin asked ms (sources_of hook old.plugins asked.by_name)
       (run_modules ms asked.words all asked.budget) m new.plugins
       (Wrote sink.tells (sink.contents old.out) (sink.contents new.out)) rest))
   pub steps : engine.faithful
-      → IfOk answer (λ m. Heard source.tells (source.left old.input) (source.left new.input)
+      → IfOk answer (λ m. OnInput source.tells (source.left old.input) (source.left new.input)
       (λ all rest. HasRunSteps (tree_plan ms asked.arcs asked.context) ms
       (run_modules ms asked.words all asked.budget).items m.rows))
   pub given_up : engine.faithful
-      → OnErr answer (HeardSome source.tells (source.left old.input) (source.left new.input)
+      → OnErr answer (OnInputUntil source.tells (source.left old.input) (source.left new.input)
       (λ all. GainsSome sink.tells (sink.contents old.out) (sink.contents new.out)
       (run_modules ms asked.words all asked.budget).out))
   pub plugins : AreLeft plugin old.plugins new.plugins

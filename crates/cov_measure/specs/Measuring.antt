@@ -22,9 +22,9 @@ use Rattle.py_meaning.specs.Activations.{Items}
 use Rattle.py_meaning.specs.Crossings.{crossings, lines_crossed}
 use Rattle.py_meaning.specs.Modules.{LoadedModule, body_of}
 use Rattle.py_meaning.specs.Program.{Run}
-use Rattle.py_sound.specs.Sound.{IsProper}
+use Rattle.py_prediction_laws.specs.Sound.{IsProper}
 use Rattle.py_syntax.specs.Prediction.{Arc, possible}
-use Rattle.py_trace.specs.Traces.{AreWellFormed}
+use Rattle.py_compile_laws.specs.Traces.{AreWellFormed}
 use Rattle.cov_hook.specs.States.{HookState}
 use Rattle.cov_recorder.specs.Plan.{Plan, set_at}
 use Rattle.cov_recorder.specs.Recording.{Recording, at_first}

@@ -11,10 +11,10 @@ ghost use Rattle.cov_measure_laws.specs.Units.{program_units};
 ghost use Rattle.cov_outside.specs.Counts.{Rose};
 ghost use Rattle.cov_recorder.specs.Plan.{HaveFirsts, plan_of};
 ghost use Rattle.py_code.specs.Loaded.{modules_of, most_numbered};
-ghost use Rattle.py_machine.specs.Told.{Heard};
+ghost use Rattle.py_machine.specs.Told.{OnInput};
 ghost use Rattle.py_meaning.specs.Modules.{LoadedModule};
 ghost use Rattle.py_meaning.specs.Program.{run_modules};
-ghost use Rattle.py_trace.specs.Traces.{AreWellFormed};
+ghost use Rattle.py_compile_laws.specs.Traces.{AreWellFormed};
 
 use crate::measuring::measure_under;
 use crate::request::{Measured, RunRequest};
@@ -55,7 +55,7 @@ pub fn measure<P: Plugin, I: Source, O: Sink, G: Engine>(
         (streams input.new out.new plugins.new.items engine.new) }
     // No label stands in that: the steps are the meaning's, and foreseen.
     ensures steps { (ms : List LoadedModule) → AreMeasured programs.now places.items ms → G.faithful
-        → IfOk result (λ m. Heard I.tells (I.left input.old) (I.left input.new) (λ all rest.
+        → IfOk result (λ m. OnInput I.tells (I.left input.old) (I.left input.new) (λ all rest.
         HasRunSteps (tree_plan ms request.now.arcs (asked_in request.now).context) ms
         (run_modules ms (asked_in request.now).words all request.now.budget).items m.rows)) }
     // Whoever runs them: the data are those of the events that were told.

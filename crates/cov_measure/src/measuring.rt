@@ -12,7 +12,7 @@ ghost use Rattle.cov_outside.specs.Counts.{Rose};
 ghost use Rattle.cov_recorder.specs.Plan.{HaveFirsts, plan_of};
 ghost use Rattle.py_builtins.specs.Inputs.{Wrote};
 ghost use Rattle.py_code.specs.Loaded.{modules_of, most_numbered};
-ghost use Rattle.py_machine.specs.Told.{Heard, HeardSome};
+ghost use Rattle.py_machine.specs.Told.{OnInput, OnInputUntil};
 ghost use Rattle.py_meaning.specs.Modules.{LoadedModule};
 ghost use Rattle.py_meaning.specs.Program.{run_modules};
 
@@ -46,18 +46,18 @@ pub(crate) fn measure_under<A: Ask, P: Plugin, I: Source, O: Sink, G: Engine>(
     requires begin { HaveFirsts (program_units programs.now.modules.items) }
     ensures meant { (ms hs : List LoadedModule) (code : A → HookState)
         → AreMeasurable A.Ask programs.now places.items ms hs code contexts → G.faithful
-        → IfOk result.0 (λ m. Heard I.tells (I.left input.old) (I.left input.new) (λ all rest.
+        → IfOk result.0 (λ m. OnInput I.tells (I.left input.old) (I.left input.new) (λ all rest.
         MeasuredAs P.Plugin (asked_in request.now) ms (meant_sources code hs contexts)
         (run_modules ms (asked_in request.now).words all request.now.budget)
         (plain_measured m) result.1.items
         (Wrote O.tells (O.contents out.old) (O.contents out.new)) rest)) }
     ensures steps { (ms : List LoadedModule) → AreMeasured programs.now places.items ms → G.faithful
-        → IfOk result.0 (λ m. Heard I.tells (I.left input.old) (I.left input.new) (λ all rest.
+        → IfOk result.0 (λ m. OnInput I.tells (I.left input.old) (I.left input.new) (λ all rest.
         HasRunSteps (tree_plan ms request.now.arcs (asked_in request.now).context) ms
         (run_modules ms (asked_in request.now).words all request.now.budget).items m.rows)) }
     ensures given_up { (ms : List LoadedModule) → AreMeasured programs.now places.items ms
         → G.faithful
-        → OnErr result.0 (HeardSome I.tells (I.left input.old) (I.left input.new) (λ all.
+        → OnErr result.0 (OnInputUntil I.tells (I.left input.old) (I.left input.new) (λ all.
         GainsSome O.tells (O.contents out.old) (O.contents out.new)
         (run_modules ms (asked_in request.now).words all request.now.budget).out)) }
     ensures told { IfOk result.0 (λ m. WasTold A.Ask P.Plugin

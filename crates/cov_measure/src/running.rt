@@ -13,10 +13,10 @@ ghost use Rattle.cov_recorder.specs.States.{state_of};
 ghost use Rattle.py_builtins.specs.Inputs.{Wrote};
 ghost use Rattle.py_code.specs.Loaded.{modules_of, most_numbered};
 ghost use Rattle.py_compile.specs.ProgramRuns.{AreFaithful};
-ghost use Rattle.py_machine.specs.Told.{Heard, HeardSome};
+ghost use Rattle.py_machine.specs.Told.{OnInput, OnInputUntil};
 ghost use Rattle.py_meaning.specs.Modules.{LoadedModule};
 ghost use Rattle.py_meaning.specs.Program.{run_modules};
-ghost use Rattle.py_trace.specs.Traces.{AreWellFormed};
+ghost use Rattle.py_compile_laws.specs.Traces.{AreWellFormed};
 
 use cov_contexts::Plugin;
 use cov_event::Ask;
@@ -27,8 +27,8 @@ use cov_outside::{Sink, Source};
 use cov_recorder::{Recorder, recorded_rows};
 use py_builtins::RunFault;
 use py_code::Programs;
+use py_compile_laws::traces_kept;
 use py_machine::{Engine, Ran, Store};
-use py_trace::traces_kept;
 use std::alloc::Global;
 
 /// Runs the programs with these words under a new recorder.
@@ -47,7 +47,7 @@ pub(crate) fn run_recorded<A: Ask, P: Plugin, I: Source, O: Sink, G: Engine>(
     ensures meant { (ms hs : List LoadedModule) (arcs : Bool) (fixed : Bytes)
         (code : A → HookState)
         → IsMeasuring A.Ask programs.now ms hs arcs fixed code (state_of recorder.old) → G.faithful
-        → IfOk result (λ ran. Heard I.tells (I.left input.old) (I.left input.new) (λ all rest.
+        → IfOk result (λ ran. OnInput I.tells (I.left input.old) (I.left input.new) (λ all rest.
         RanMeasured P.Plugin ms hs arcs fixed code (state_of recorder.old).1
         (state_of recorder.new).1 (run_modules ms (words_in words.now) all budget) ran
         (state_of recorder.new).0.data
@@ -55,13 +55,13 @@ pub(crate) fn run_recorded<A: Ask, P: Plugin, I: Source, O: Sink, G: Engine>(
     // No label stands in that: the steps are the meaning's, and foreseen.
     ensures steps { (ms : List LoadedModule) (plan : Plan) → IsSteady programs.now ms plan
         → (state_of recorder.old).0 ≡ at_first plan → G.faithful
-        → OnOk result (Heard I.tells (I.left input.old) (I.left input.new) (λ all rest.
+        → OnOk result (OnInput I.tells (I.left input.old) (I.left input.new) (λ all rest.
         HasRunSteps plan ms (run_modules ms (words_in words.now) all budget).items
         (state_of recorder.new).0.data)) }
     // However it ends: a first part of the run's output was written.
     ensures some_output { (ms : List LoadedModule) → AreFaithful (modules_of programs.now) ms
         → AreWellFormed ms → G.faithful
-        → HeardSome I.tells (I.left input.old) (I.left input.new) (λ all.
+        → OnInputUntil I.tells (I.left input.old) (I.left input.new) (λ all.
         GainsSome O.tells (O.contents out.old) (O.contents out.new)
         (run_modules ms (words_in words.now) all budget).out) }
     // Whoever runs them: the data are those of the events that were told.

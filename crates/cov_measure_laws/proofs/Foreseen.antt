@@ -9,7 +9,7 @@ use Rattle.py_meaning.specs.Activations.{Items}
 use Rattle.py_meaning.specs.Loading.{loaded}
 use Rattle.py_meaning.specs.Modules.{LoadedModule, body_of}
 use Rattle.py_meaning.specs.Program.{run_modules, meaning, called}
-use Rattle.py_sound.specs.Sound.{IsForeseen, AreForeseen, ModulesSoundness, CallSoundness}
+use Rattle.py_prediction_laws.specs.Sound.{IsForeseen, AreForeseen, ModulesSoundness, CallSoundness}
 use Rattle.cov_recorder.specs.Recording.{Recording}
 use Rattle.cov_recorder_laws.specs.Laws.{KeepsMeaning, ModulesStepsLaw, CallStepsLaw}
 use Rattle.cov_recorder_laws.proofs.Pairs.{among, among-Contains, Contains-among}

@@ -8,7 +8,7 @@ use Rattle.cov_contexts.specs.Asking.{LabelRefused}
 use Rattle.cov_contexts.specs.Plugins.{PluginsGive, PluginsGiveAfter, PluginsStop}
 use Rattle.cov_contexts.specs.Sources.{Sources}
 use Rattle.cov_recorder.specs.Asking.{asks, AskRefused, SourcesLeft}
-use Rattle.cov_recorder.specs.Labels.{question, IsLabel, Labelled}
+use Rattle.cov_recorder.specs.Labels.{question, GetsLabel, Labelled}
 use Rattle.cov_recorder.specs.Plan.{Named, Plan}
 use Rattle.cov_recorder.specs.Recording.{Open, Recording, label_now}
 use Rattle.cov_measure_laws.specs.Leaving.{Question, Stays, Leaves, AreLeft, LeavingLaw}
@@ -81,7 +81,7 @@ module _ {A P : Type 0} (hook : HookOf A) (plugin : PluginOf P) where
   unchanged : (old new : Sources A P) → new ≡ old → Left old new
   unchanged old new e = same-list plugin old.plugins new.plugins (ap (λ (s : Sources A P). s.plugins) e)
 
-  labelled : (outer : Option (List ℕ)) (names : Option Named) (old : Sources A P) (label : Option (List ℕ)) (new : Sources A P) → IsLabel (asks hook plugin) outer names old label new → Left old new
+  labelled : (outer : Option (List ℕ)) (names : Option Named) (old : Sources A P) (label : Option (List ℕ)) (new : Sources A P) → GetsLabel (asks hook plugin) outer names old label new → Left old new
   labelled (Some outer) names old label new h = unchanged old new h.1
   labelled None None old label new h = unchanged old new h.1
   labelled None (Some unit) old label new h = given-after plugin h.of_hook unit.module unit.function old.plugins h.of_plugins new.plugins h.by_plugins

@@ -13,7 +13,7 @@ use Rattle.py_meaning.specs.Activations.{Items}
 use Rattle.py_meaning.specs.Events.{events_in}
 use Rattle.py_meaning.specs.Modules.{LoadedModule}
 use Rattle.py_meaning.specs.Program.{run_modules, called}
-use Rattle.py_trace.specs.Traces.{AreWellFormed}
+use Rattle.py_compile_laws.specs.Traces.{AreWellFormed}
 use Rattle.cov_hook.specs.States.{HookState}
 use Rattle.cov_hook_laws.specs.Laws.{with_trees, HooksMean}
 use Rattle.cov_hook_laws.specs.MeantHooks.{MeantHook}
@@ -21,7 +21,7 @@ use Rattle.cov_arcs.specs.Laws.{firsts_of}
 use Rattle.cov_recorder.specs.Asking.{asks}
 use Rattle.cov_recorder.specs.Plan.{Named, Plan, plan_of}
 use Rattle.cov_recorder.specs.Recording.{Open, Recording, label_now, after, is_line, paths_told}
-use Rattle.cov_recorder.specs.Labels.{question, IsLabel, Labelled}
+use Rattle.cov_recorder.specs.Labels.{question, GetsLabel, Labelled}
 use Rattle.cov_recorder.specs.Laws.{all_paths, IsCounted}
 use Rattle.cov_recorder_laws.specs.Laws.{first_lines}
 use Rattle.cov_measure_laws.specs.Units.{tree_units, program_units, UnitsLaw}
@@ -58,7 +58,7 @@ module _ {A P : Type 0} (hook : HookOf A) (plugin : PluginOf P) (mean : HooksMea
   same old new g e = (ap to e, subst (λ (s : Sources A P). Good s.hook) (sym e) g)
 
   is-label : (outer : Option (List ℕ)) (names : Option Named) (old : Sources A P) (label : Option (List ℕ)) (new : Sources A P) → Good old.hook
-      → IsLabel (asks hook plugin) outer names old label new → IsLabel (asks meant_hook plugin) outer names (to old) label (to new) × Good new.hook
+      → GetsLabel (asks hook plugin) outer names old label new → GetsLabel (asks meant_hook plugin) outer names (to old) label (to new) × Good new.hook
   is-label (Some outer) names old label new g h = let s = same old new g h.1 in ((h.0, s.0), s.1)
   is-label None None old label new g h = let s = same old new g h.1 in ((h.0, s.0), s.1)
   is-label None (Some unit) old label new g h = labels unit.module unit.function old label new g h

@@ -16,7 +16,7 @@ use Rattle.py_meaning.specs.Events.{events_in}
 use Rattle.py_meaning.specs.Loading.{loaded}
 use Rattle.py_meaning.specs.Modules.{LoadedModule, body_of}
 use Rattle.py_meaning.specs.Program.{run_modules, meaning, called}
-use Rattle.py_sound.specs.Sound.{AreForeseen, ModulesSoundness, CallSoundness}
+use Rattle.py_prediction_laws.specs.Sound.{AreForeseen, ModulesSoundness, CallSoundness}
 use Rattle.cov_arcs.specs.Laws.{unit_lines, firsts_of, ArcsAgree, ModulesArcsLaw, CallArcsLaw}
 use Rattle.cov_arcs.specs.Told.{arcs_told}
 use Rattle.cov_recorder.specs.Plan.{Named, Plan, line_of, greatest, lines_to, counted, unit_in, unit_of, set_at, set_of, path_of}

@@ -16,7 +16,7 @@ use Rattle.py_meaning.specs.Events.{events_in}
 use Rattle.py_meaning.specs.Loading.{Program, loaded}
 use Rattle.py_meaning.specs.Modules.{LoadedModule, body_of}
 use Rattle.py_meaning.specs.Program.{run_modules, meaning, Request, called}
-use Rattle.py_sound.specs.Sound.{IsProper, AreForeseen}
+use Rattle.py_prediction_laws.specs.Sound.{IsProper, AreForeseen}
 use Rattle.cov_arcs.specs.Laws.{firsts_of}
 use Rattle.cov_recorder.specs.Plan.{Plan, path_of}
 use Rattle.cov_recorder.specs.Recording.{Recording}

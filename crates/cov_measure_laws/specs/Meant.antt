@@ -25,8 +25,8 @@ use Rattle.py_meaning.specs.Activations.{Items}
 use Rattle.py_meaning.specs.Events.{events_in}
 use Rattle.py_meaning.specs.Modules.{LoadedModule, body_of}
 use Rattle.py_meaning.specs.Program.{run_modules, Request, called}
-use Rattle.py_sound.specs.Sound.{IsProper}
-use Rattle.py_trace.specs.Traces.{AreWellFormed}
+use Rattle.py_prediction_laws.specs.Sound.{IsProper}
+use Rattle.py_compile_laws.specs.Traces.{AreWellFormed}
 use Rattle.cov_hook.specs.Questions.{Answers}
 use Rattle.cov_hook.specs.States.{HookState}
 use Rattle.cov_hook_laws.specs.Laws.{with_trees}

@@ -14,7 +14,7 @@ use Rattle.py_meaning.specs.Crossings.{crossings, lines_crossed}
 use Rattle.py_meaning.specs.Events.{events_in}
 use Rattle.py_meaning.specs.Modules.{LoadedModule}
 use Rattle.py_meaning.specs.Program.{run_modules, Request, called}
-use Rattle.py_sound.specs.Sound.{IsProper}
+use Rattle.py_prediction_laws.specs.Sound.{IsProper}
 use Rattle.cov_arcs.specs.Laws.{firsts_of}
 use Rattle.cov_recorder.specs.Plan.{Plan, path_of}
 use Rattle.cov_recorder.specs.Recording.{Recording}

@@ -24,7 +24,7 @@ use Rattle.py_meaning.specs.Events.{events_in}
 use Rattle.py_meaning.specs.Loading.{Program, loaded}
 use Rattle.py_meaning.specs.Modules.{LoadedModule, body_of}
 use Rattle.py_meaning.specs.Program.{run_modules, meaning, Request, called}
-use Rattle.py_sound.specs.Sound.{IsProper}
+use Rattle.py_prediction_laws.specs.Sound.{IsProper}
 use Rattle.cov_arcs.specs.Laws.{firsts_of}
 use Rattle.cov_recorder.specs.Plan.{Named, Plan, plan_of, unit_of, set_at, set_of, path_of}
 use Rattle.cov_recorder.specs.Recording.{Open, Recording, at_first, after, is_line, step, context_of, one_row}

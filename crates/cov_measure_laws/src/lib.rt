@@ -24,7 +24,7 @@ use cov_recorder::recorded_rows;
 use cov_recorder_laws::{recorded_steps_of_call, recorded_steps_of_modules};
 pub use naming::units_of;
 use py_compile::units_are_faithful;
-use py_sound::{foreseen_arcs_of_call, foreseen_arcs_of_modules};
+use py_prediction_laws::{foreseen_arcs_of_call, foreseen_arcs_of_modules};
 
 /// What a recorder keeps of events has a place of a row for each step that they tell and that has a
 /// counter, and for nothing else.

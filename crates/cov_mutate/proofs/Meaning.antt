@@ -26,7 +26,7 @@ use Rattle.py_mutants_laws.specs.Unreached.{with_body}
 use Rattle.py_scope.specs.Faults.{IsWellFormed}
 use Rattle.py_syntax.specs.Functions.{functions}
 use Rattle.py_syntax.specs.Tree.{Text, Stmts}
-use Rattle.py_trace.specs.Traces.{AreWellFormed}
+use Rattle.py_compile_laws.specs.Traces.{AreWellFormed}
 
 -- ---- code with the units of a mutant is code of the mutant
 

@@ -34,7 +34,7 @@ use Rattle.py_scope.specs.Faults.{IsWellFormed, faults_of, functions_of}
 use Rattle.py_syntax.specs.Marks.{body_marks}
 use Rattle.py_syntax.specs.Tree.{Stmts}
 use Rattle.py_syntax.specs.declared.stmt.Module.{Module}
-use Rattle.py_trace.specs.Traces.{AreWellFormed, TracesKept}
+use Rattle.py_compile_laws.specs.Traces.{AreWellFormed, TracesKept}
 
 -- ---- a mutant
 

@@ -26,7 +26,7 @@ use Rattle.py_compile.specs.ProgramRuns.{AreFaithful}
 use Rattle.py_meaning.specs.Modules.{LoadedModule}
 use Rattle.py_syntax.specs.View.{plain_module}
 use Rattle.py_syntax.specs.declared.stmt.Module.{Module}
-use Rattle.py_trace.specs.Traces.{AreWellFormed}
+use Rattle.py_compile_laws.specs.Traces.{AreWellFormed}
 
 -- The programs are faithful code of the modules, on the same paths, and the trees are the bodies
 -- of these. The modules have no fault of scope, and their statements begin in lines that a text

@@ -6,7 +6,7 @@ ghost use Rattle.py_scope.specs.Faults.{IsWellFormed, functions_of};
 ghost use Rattle.py_syntax.specs.View.{plain_module};
 
 use py_code::{Program, Programs};
-use py_compiler::compile;
+use py_compile_module::compile;
 use py_scope::{Scopes, check};
 use py_syntax::Module;
 use py_text::NoMemory;

@@ -15,7 +15,7 @@ use crate::{Judged, MutantEnd};
 use cov_data::Data;
 use cov_mutants::{Mutant, mutant_at};
 use py_code::Programs;
-use py_compiler::compile;
+use py_compile_module::compile;
 use py_mutants_laws::mutants_are_well_formed;
 use py_scope::Scopes;
 use py_syntax::Module;

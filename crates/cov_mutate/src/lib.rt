@@ -21,8 +21,8 @@ use crate::unchanged::run_unchanged;
 use cov_suite::SuiteError;
 use py_code::Programs;
 use py_compile::units_are_faithful;
+use py_compile_laws::traces_kept;
 use py_syntax::Module;
-use py_trace::traces_kept;
 use std::alloc::Global;
 
 /// What tests notice of a mutant. Killed is one whose import doesn't finish, or of which a test

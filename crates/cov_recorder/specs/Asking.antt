@@ -13,7 +13,7 @@ use Rattle.cov_contexts.specs.Sources.{Sources}
 use Rattle.cov_data.specs.DataSet.{Text}
 use Rattle.cov_recorder.specs.Plan.{Named, Plan}
 use Rattle.cov_recorder.specs.Recording.{Open, label_now}
-use Rattle.cov_recorder.specs.Labels.{question, IsLabel}
+use Rattle.cov_recorder.specs.Labels.{question, GetsLabel}
 
 -- the sources are asked about a function of a module, by their names
 abbrev pub asks : {A P : Type 0} → HookOf A → PluginOf P →
@@ -42,7 +42,7 @@ abbrev pub SourcesLeft : {A P : Type 0} → HookOf A → PluginOf P →
 SourcesLeft hook plugin plan frames (Call code) old new =
     AskRefused hook plugin (question plan code) old new
     ⊎ ((label : Option (List ℕ))
-    × IsLabel (asks hook plugin) (label_now frames) (question plan code) old label new)
+    × GetsLabel (asks hook plugin) (label_now frames) (question plan code) old label new)
 SourcesLeft hook plugin plan frames (Line line) old new = ⊥
 SourcesLeft hook plugin plan frames (Throw kind) old new = ⊥
 SourcesLeft hook plugin plan frames Return old new = ⊥

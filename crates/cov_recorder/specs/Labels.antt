@@ -1,7 +1,7 @@
 -- Who gives the label of a frame: the frame around it, or the sources of labels.
 --     question          what they are asked about
 --     IsUnasked         that nobody is asked
---     IsLabel           the label of a frame that begins, and what it makes of the sources
+--     GetsLabel           the label of a frame that begins, and what it makes of the sources
 --     Labelled          the same for each event
 --     IsNext            how an event changes a recording and the sources
 --     IsRefused         what it leaves of them where it is refused
@@ -28,17 +28,17 @@ IsUnasked r code = label_now r.frames ≡ None → question r.plan code ≡ None
 
 -- A label in progress goes on. Otherwise the sources of labels are asked about a function, and
 -- their answer leads them from one state to another.
-abbrev pub IsLabel : {C : Type 0} → (C → Text → Text → Option (List ℕ) → C → Type 0)
+abbrev pub GetsLabel : {C : Type 0} → (C → Text → Text → Option (List ℕ) → C → Type 0)
     → Option (List ℕ) → Option Named → C → Option (List ℕ) → C → Type 0
-IsLabel asks (Some outer) names old label new = (label ≡ Some outer) × (new ≡ old)
-IsLabel asks None None old label new = (label ≡ None) × (new ≡ old)
-IsLabel asks None (Some unit) old label new = asks old unit.module unit.function label new
+GetsLabel asks (Some outer) names old label new = (label ≡ Some outer) × (new ≡ old)
+GetsLabel asks None None old label new = (label ≡ None) × (new ≡ old)
+GetsLabel asks None (Some unit) old label new = asks old unit.module unit.function label new
 
 -- the label that an event begins a frame with; other events ask nothing
 abbrev pub Labelled : {C : Type 0} → (C → Text → Text → Option (List ℕ) → C → Type 0)
     → Plan → List Open → Event → C → Option (List ℕ) → C → Type 0
 Labelled asks plan frames (Call code) old label new =
-    IsLabel asks (label_now frames) (question plan code) old label new
+    GetsLabel asks (label_now frames) (question plan code) old label new
 Labelled asks plan frames (Line line) old label new = (label ≡ None) × (new ≡ old)
 Labelled asks plan frames (Throw kind) old label new = (label ≡ None) × (new ≡ old)
 Labelled asks plan frames Return old label new = (label ≡ None) × (new ≡ old)

@@ -2,7 +2,7 @@
 ghost use Rattle.std.specs.Prelude.{◌≡◌, IfOk, IfErr, OnOk, OnErr, IsOk};
 ghost use Rattle.cov_event.specs.declared.event.Event.TheVariants.{Call};
 ghost use Rattle.cov_recorder.specs.Asking.{asks, SourcesLeft};
-ghost use Rattle.cov_recorder.specs.Labels.{question, IsLabel};
+ghost use Rattle.cov_recorder.specs.Labels.{question, GetsLabel};
 ghost use Rattle.cov_recorder.specs.Recording.{label_now};
 
 use crate::names::UnitName;
@@ -149,7 +149,7 @@ fn label_of<A: Ask, P: Plugin>(
     code: CodeId,
 ) -> Result<Option<Text>, NoMemory>
     ensures labels { IfOk result (λ label.
-        IsLabel (asks A.Ask P.Plugin) (label_now records.now.frames)
+        GetsLabel (asks A.Ask P.Plugin) (label_now records.now.frames)
         (question records.now.plan code) contexts.old label contexts.new) }
     ensures refused { OnErr result (SourcesLeft A.Ask P.Plugin
         records.now.plan records.now.frames (Call code) contexts.old contexts.new) }

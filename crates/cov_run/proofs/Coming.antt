@@ -20,7 +20,7 @@ use Rattle.cov_why.specs.declared.why.Why.TheVariants as why
 use Rattle.cov_run.specs.Asking.{has_own_file, file_name, asked_for, asked, names_read, AreUpTo, Agrees}
 use Rattle.cov_run.specs.Loading.{most_bytes, Told, told_by, is_there, all_imported}
 use Rattle.cov_run.specs.Loads.{Loading, IsUnread, starved, LoadsTo, ComesTo, Loads, IsAskedNext, EndsFailed, EndsWith}
-use Rattle.cov_run.specs.Progress.{IsAt, HasCome}
+use Rattle.cov_run.specs.Progress.{StandsAt, HasCome}
 use Rattle.cov_run.specs.Refusals.{Refuses}
 use Rattle.cov_run.specs.State.{State, nothing, Adds, Settles}
 use Rattle.cov_run.proofs.Lists.{take-next, take-all}
@@ -45,7 +45,7 @@ cut-at [] (suc i) = refl
 cut-at (x ∷ xs) (suc i) = ap (λ t. x ∷ t) (cut-at xs i)
 
 -- the files of the first names are the first of those that the modules ask for
-front-asked : (told : Told) (script name : Text) (s : State) (at i : ℕ) → IsAt told script name s at → IsPrefix (asked_for script (take i s.names)) (asked script s.modules)
+front-asked : (told : Told) (script name : Text) (s : State) (at i : ℕ) → StandsAt told script name s at → IsPrefix (asked_for script (take i s.names)) (asked script s.modules)
 front-asked told script name s at i h = record {
   rest = map (file_name script) (filter has_own_file (drop i s.names));
   is = ap (asked_for script) (sym h.names ∙ cut-at s.names i) ∙ asked-more script (take i s.names) (drop i s.names);

@@ -9,7 +9,7 @@ use Rattle.py_compile.specs.ProgramRuns.{AreFaithful, HasUnits}
 use Rattle.py_meaning.specs.Modules.{LoadedModule}
 use Rattle.py_scope.specs.Faults.{IsWellFormed}
 use Rattle.py_syntax.specs.declared.stmt.Module.{Module}
-use Rattle.py_trace.specs.Traces.{AreWellFormed}
+use Rattle.py_compile_laws.specs.Traces.{AreWellFormed}
 use Rattle.py_syntax.specs.Tree.{Text}
 use Rattle.cov_run.specs.declared.programs.Loaded.{Loaded}
 use Rattle.cov_run.specs.Loading.{most_modules}

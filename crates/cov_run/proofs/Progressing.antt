@@ -12,7 +12,7 @@ use Rattle.cov_run.specs.Asking.{has_own_file}
 use Rattle.cov_run.specs.Loading.{most_total, most_modules, Told, file_bytes, content_at, is_there, total_bytes, all_imported, has_file, is_wanted, wanted, IsRead, AreLoaded, IsLoaded}
 use Rattle.cov_run.specs.Refusals.{Refuses, next_file, IsStopped}
 use Rattle.cov_run.specs.State.{State, nothing, Adds, Settles}
-use Rattle.cov_run.specs.Progress.{IsAt}
+use Rattle.cov_run.specs.Progress.{StandsAt}
 use Rattle.cov_run.proofs.Lists.{get-append, get-within, get-front, take-next, take-whole, take-all, among-more, among-before, among-last, find-none, find-next, find-distinct, add_names-append, add_names-front, distinct-apart}
 use Rattle.cov_run.proofs.Modules.{not-loaded, unwanted-before, unwanted-last, unwanted-absent, wanted-new, imported-more, bytes-more, bytes-script, content-later, file-there, file-absent, file-none, length-more}
 
@@ -31,12 +31,12 @@ no-modules told script name = record {
 pub added-read : (content : Option (List ℕ)) (path name : Text) (old new : State) (a : Adds content name path old new) → IsRead content (record { name = name; path = path; body = a.body })
 added-read content path name old new a = record { bytes = a.bytes; there = a.room.next.there; small = a.room.small; read = a.read }
 
-pub begins : (told : Told) (script name : Text) (s : State) → Adds told.script name script nothing s → IsAt told script name s 0
+pub begins : (told : Told) (script name : Text) (s : State) → Adds told.script name script nothing s → StandsAt told script name s 0
 begins told script name s a =
     let m : LoadedModule = record { name = name; path = script; body = a.body } in
     let total : total_bytes told (m ∷ []) ≡ length a.bytes = bytes-script told m a.bytes a.room.next.there in
     let room : 0 + length a.bytes ≤ most_total = a.room.light in
-    subst (λ (t : State). IsAt told script name t 0) (sym (the_state s a)) (record {
+    subst (λ (t : State). StandsAt told script name t 0) (sym (the_state s a)) (record {
       loaded = record {
         read = λ i n h. read_one i n h;
         first = λ n h. (ap (λ (k : LoadedModule). k.name) (same m n h), ap (λ (k : LoadedModule). k.path) (same m n h));
@@ -72,17 +72,17 @@ script-refused told script name w h = (record { ms = []; loaded = no-modules tol
 -- ---- an imported name
 
 -- a name at its place is met for the first time
-pub fresh : (told : Told) (script name : Text) (s : State) (at : ℕ) (x : Text) → IsAt told script name s at → slice_get s.names at ≡ Some x → is_among (take at s.names) x ≡ false
+pub fresh : (told : Told) (script name : Text) (s : State) (at : ℕ) (x : Text) → StandsAt told script name s at → slice_get s.names at ≡ Some x → is_among (take at s.names) x ≡ false
 fresh told script name s at x h k =
     subst (λ (xs : List Text). slice_get xs at ≡ Some x → is_among (take at xs) x ≡ false) (sym h.names) (distinct-apart (all_imported s.modules) at x) k
 
 -- so no module has it yet
-new_name : (told : Told) (script name : Text) (s : State) (at : ℕ) (x : Text) → IsAt told script name s at → slice_get s.names at ≡ Some x → (i : ℕ) (m : LoadedModule) → slice_get s.modules (suc i) ≡ Some m → m.name ≡ x → ⊥
+new_name : (told : Told) (script name : Text) (s : State) (at : ℕ) (x : Text) → StandsAt told script name s at → slice_get s.names at ≡ Some x → (i : ℕ) (m : LoadedModule) → slice_get s.modules (suc i) ≡ Some m → m.name ≡ x → ⊥
 new_name told script name s at x h k i m q e =
     false≢true (sym (fresh told script name s at x h k) ∙ ap (is_among (take at s.names)) (sym e) ∙ h.seen i m q)
 
 -- where it has a file, it is the one that is wanted
-pub next-wanted : (told : Told) (script name : Text) (s : State) (at : ℕ) (x : Text) → IsAt told script name s at → slice_get s.names at ≡ Some x → has_file told.modules (folder_of script) x ≡ true → wanted told.modules (folder_of script) s.modules ≡ Some x
+pub next-wanted : (told : Told) (script name : Text) (s : State) (at : ℕ) (x : Text) → StandsAt told script name s at → slice_get s.names at ≡ Some x → has_file told.modules (folder_of script) x ≡ true → wanted told.modules (folder_of script) s.modules ≡ Some x
 next-wanted told script name s at x h k there =
     let is : is_wanted told.modules (folder_of script) s.modules x ≡ true = wanted-new told.modules (folder_of script) s.modules x there (not-loaded s.modules x (new_name told script name s at x h k)) in
     let cut : s.names ≡ take at s.names ++ x ∷ drop (suc at) s.names = cut_at s.names x at k in
@@ -100,7 +100,7 @@ wanted-after told script [] x l e = absurd (omega arith)
 wanted-after told script (m ∷ ms) x l e = rw e refl
 
 -- where its file is refused, the program is
-pub import-refused : (told : Told) (script name : Text) (s : State) (at : ℕ) (x : Text) (w : Refusal) → IsAt told script name s at → slice_get s.names at ≡ Some x → has_own_file x ≡ true
+pub import-refused : (told : Told) (script name : Text) (s : State) (at : ℕ) (x : Text) (w : Refusal) → StandsAt told script name s at → slice_get s.names at ≡ Some x → has_own_file x ≡ true
     → is_there (file_bytes told.modules (file_of (folder_of script) x)) ≡ true → Refuses (length s.modules) s.bytes (file_of (folder_of script) x) (file_bytes told.modules (file_of (folder_of script) x)) w
     → (stop : IsStopped told script name w) × (stop.ms ≡ s.modules) × (stop.path ≡ file_of (folder_of script) x)
 import-refused told script name s at x w h k own there r = (
@@ -117,7 +117,7 @@ import-refused told script name s at x w h k own there r = (
 )
 
 -- it has no file: the next name
-stays : (told : Told) (script name : Text) (s : State) (at : ℕ) (x : Text) → IsAt told script name s at → slice_get s.names at ≡ Some x → has_file told.modules (folder_of script) x ≡ false → IsAt told script name s (suc at)
+stays : (told : Told) (script name : Text) (s : State) (at : ℕ) (x : Text) → StandsAt told script name s at → slice_get s.names at ≡ Some x → has_file told.modules (folder_of script) x ≡ false → StandsAt told script name s (suc at)
 stays told script name s at x h k absent = record {
   loaded = h.loaded;
   some = h.some;
@@ -154,8 +154,8 @@ loads told script name ms m bytes h some read there next lies few light = record
 }
 
 -- it has a file, which is read: the next name, with one module more
-adds : (told : Told) (script name : Text) (s t : State) (at : ℕ) (x : Text) → IsAt told script name s at → slice_get s.names at ≡ Some x → has_file told.modules (folder_of script) x ≡ true
-    → Adds (file_bytes told.modules (file_of (folder_of script) x)) x (file_of (folder_of script) x) s t → IsAt told script name t (suc at)
+adds : (told : Told) (script name : Text) (s t : State) (at : ℕ) (x : Text) → StandsAt told script name s at → slice_get s.names at ≡ Some x → has_file told.modules (folder_of script) x ≡ true
+    → Adds (file_bytes told.modules (file_of (folder_of script) x)) x (file_of (folder_of script) x) s t → StandsAt told script name t (suc at)
 adds told script name s t at x h k there a =
     let folder = folder_of script in
     let m : LoadedModule = record { name = x; path = file_of (folder_of script) x; body = a.body } in
@@ -182,16 +182,16 @@ adds told script name s t at x h k there a =
     }
 
 -- its file is read, and adds a module or isn't there
-pub goes-on : (told : Told) (script name : Text) (s t : State) (at : ℕ) (x : Text) → IsAt told script name s at → slice_get s.names at ≡ Some x → has_own_file x ≡ true
-    → Settles (file_bytes told.modules (file_of (folder_of script) x)) x (file_of (folder_of script) x) s t → IsAt told script name t (suc at)
+pub goes-on : (told : Told) (script name : Text) (s t : State) (at : ℕ) (x : Text) → StandsAt told script name s at → slice_get s.names at ≡ Some x → has_own_file x ≡ true
+    → Settles (file_bytes told.modules (file_of (folder_of script) x)) x (file_of (folder_of script) x) s t → StandsAt told script name t (suc at)
 goes-on told script name s t at x h k own i =
     elim i [
-      | inl e ↦ subst (λ (u : State). IsAt told script name u (suc at)) (sym e.1) (stays told script name s at x h k (file-absent told.modules (folder_of script) x e.0))
+      | inl e ↦ subst (λ (u : State). StandsAt told script name u (suc at)) (sym e.1) (stays told script name s at x h k (file-absent told.modules (folder_of script) x e.0))
       | inr a ↦ adds told script name s t at x h k (file-there told.modules (folder_of script) x own (ap is_there a.room.next.there)) a
     ]
 
 -- no file is read for it
-pub passes : (told : Told) (script name : Text) (s : State) (at : ℕ) (x : Text) → IsAt told script name s at → slice_get s.names at ≡ Some x → has_own_file x ≡ false → IsAt told script name s (suc at)
+pub passes : (told : Told) (script name : Text) (s : State) (at : ℕ) (x : Text) → StandsAt told script name s at → slice_get s.names at ≡ Some x → has_own_file x ≡ false → StandsAt told script name s (suc at)
 passes told script name s at x h k own = stays told script name s at x h k (file-none told.modules (folder_of script) x own)
 
 -- the names up to this one, where its file is settled
@@ -207,7 +207,7 @@ names-up-to s t at x path content k i =
 
 -- ---- the end
 
-pub ends : (told : Told) (script name : Text) (s : State) (at : ℕ) → IsAt told script name s at → length s.names ≤ at → IsLoaded told script name s.modules
+pub ends : (told : Told) (script name : Text) (s : State) (at : ℕ) → StandsAt told script name s at → length s.names ≤ at → IsLoaded told script name s.modules
 ends told script name s at h l = record {
   loaded = h.loaded;
   some = h.some;

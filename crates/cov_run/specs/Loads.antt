@@ -19,7 +19,7 @@ use Rattle.py_meaning.specs.Modules.{LoadedModule}
 use Rattle.py_syntax.specs.declared.stmt.Module.{Module}
 use Rattle.py_syntax.specs.Tree.{Text}
 use Rattle.py_syntax.specs.View.{plain_module}
-use Rattle.py_trace.specs.Traces.{AreWellFormed}
+use Rattle.py_compile_laws.specs.Traces.{AreWellFormed}
 use Rattle.cov_why.specs.Answers.{Refusal, shelf_fault, no_memory, RefusedAs}
 use Rattle.cov_why.specs.declared.why.Why.{Why}
 use Rattle.cov_why.specs.declared.why.Why.TheVariants as why

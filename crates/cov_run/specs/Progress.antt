@@ -1,5 +1,5 @@
 -- How far loading has come.
---     IsAt          by what was told of the files
+--     StandsAt          by what was told of the files
 --     HasCome       by reads of a shelf
 use Rattle.std.specs.Prelude.{◌≡◌, ℕ, suc, ◌<◌, true, false, List, All, length, take, slice_get, Some, Result}
 use Rattle.cov_outside.specs.declared.shelf.ShelfError.{ShelfError}
@@ -14,7 +14,7 @@ use Rattle.cov_run.specs.State.{State}
 
 -- The modules so far are loaded, and the imported names before this place are settled: none of them
 -- is wanted any more.
-pub record IsAt (told : Told) (script name : Text) (s : State) (at : ℕ) : Type 0 where
+pub record StandsAt (told : Told) (script name : Text) (s : State) (at : ℕ) : Type 0 where
   pub loaded : AreLoaded told script name s.modules
   pub some : 0 < length s.modules
   pub names : s.names ≡ distinct (all_imported s.modules)
@@ -35,5 +35,5 @@ pub record HasCome {H : Type 0}
   pub led : Reads moves old made new
   pub limit : All (λ r. r.most ≡ most_bytes) made
   pub names : names_read made ≡ asked_for script (take at s.names)
-  pub come : (told : Told) → Agrees told made → IsAt told script name s at
+  pub come : (told : Told) → Agrees told made → StandsAt told script name s at
   pub some : (told : Told) × Agrees told made

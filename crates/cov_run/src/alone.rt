@@ -7,7 +7,7 @@ ghost use Rattle.cov_run.specs.Alone.{ChecksText, ReadsAlone, ReadsText, plain_f
 ghost use Rattle.cov_run.specs.Loading.{most_bytes};
 
 use crate::bytes::text_of;
-use crate::loading::MAX_BYTES;
+use crate::loading::MOST_BYTES;
 use crate::refusals::{no_source, refused};
 use crate::source::{SourceError, read_text};
 use cov_outside::{Shelf, ShelfError};
@@ -34,7 +34,7 @@ pub fn load_source<H: Shelf>(alloc: Global, path: &str, shelf: &mut H) -> Result
     ensures count { H.faults shelf.old ≤ H.faults shelf.new }
     ensures kept { H.tells → H.files shelf.new ≡ H.files shelf.old }
 {
-    match shelf.read(alloc, path, MAX_BYTES) {
+    match shelf.read(alloc, path, MOST_BYTES) {
         Ok(bytes) => source_of_bytes(alloc, path, &bytes),
         Err(ShelfError::Absent) => Err(no_source(alloc, path)),
         Err(ShelfError::TooLarge) => Err(Why::Limit(LimitKind::FileBytes, 1_048_577)),

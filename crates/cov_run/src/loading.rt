@@ -29,13 +29,13 @@ use py_text::{NoMemory, Text};
 use std::alloc::Global;
 
 /// The most bytes of a file.
-pub(crate) const MAX_BYTES: usize = 1_048_576;
+pub(crate) const MOST_BYTES: usize = 1_048_576;
 
 /// The most bytes of all files of a program.
-const MAX_TOTAL: usize = 16_777_216;
+const MOST_TOTAL_BYTES: usize = 16_777_216;
 
 /// The most modules of a program.
-const MAX_MODULES: usize = 256;
+const MOST_MODULES: usize = 256;
 
 /// Loads the script as the module `name`, and then in order the modules that the loaded ones
 /// import, each once, where its file is there: it lies in the script's folder and is named as the
@@ -115,7 +115,7 @@ fn find<H: Shelf>(alloc: Global, path: &Text, shelf: &mut H) -> Result<Option<Fi
         → Rose (H.faults shelf.old) (H.faults shelf.new) }
     ensures count { H.faults shelf.old ≤ H.faults shelf.new }
 {
-    match shelf.read(alloc, path.as_str(), MAX_BYTES) {
+    match shelf.read(alloc, path.as_str(), MOST_BYTES) {
         Ok(bytes) => Ok(Some(File::Bytes(bytes))),
         Err(ShelfError::Absent) => Ok(None),
         Err(ShelfError::TooLarge) => Ok(Some(File::TooLarge)),
@@ -225,7 +225,7 @@ impl Loading {
             → Refuses (length self.old.sources.items) self.old.bytes path content r)) }
         ensures no_fault { IsErrOf result Why.ShelfFault → ⊥ }
     {
-        if self.sources.len() >= MAX_MODULES {
+        if self.sources.len() >= MOST_MODULES {
             return Err(Why::Limit(LimitKind::Modules, 257));
         }
         match file {
@@ -247,7 +247,7 @@ impl Loading {
         ensures no_fault { IsErrOf result Why.ShelfFault → ⊥ }
     {
         let total = self.bytes + bytes.len();
-        if total > MAX_TOTAL {
+        if total > MOST_TOTAL_BYTES {
             return Err(Why::Limit(LimitKind::TotalBytes, total as u64));
         }
         match read_source(alloc, bytes) {

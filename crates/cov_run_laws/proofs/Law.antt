@@ -6,8 +6,8 @@ use Rattle.cov_outside.specs.declared.shelf.ShelfError.{ShelfError}
 use Rattle.py_syntax.specs.Functions.{functions}
 use Rattle.py_meaning.specs.Modules.{LoadedModule}
 use Rattle.py_code.specs.Loaded.{modules_of}
-use Rattle.py_own_lines.specs.OwnLines.{HaveOwnLines, OwnLinesLaw}
-use Rattle.py_makers.specs.Makers.{AreOnOwnLines, CodeMakes}
+use Rattle.py_line_laws.specs.OwnLines.{HaveOwnLines, OwnLinesLaw}
+use Rattle.py_making_laws.specs.Makers.{AreOnOwnLines, CodeMakesFunctions}
 use Rattle.cov_run.specs.Loads.{loaded_modules}
 use Rattle.cov_run_laws.specs.LoadedPrograms.{LoadedMakes}
 use Rattle.cov_run_laws.proofs.Readings.{reading}
@@ -16,7 +16,7 @@ all_own : (ms : List LoadedModule) → ((i : ℕ) (m : LoadedModule) → slice_g
 all_own [] each = tt
 all_own (m ∷ ms) each = (each 0 m refl, all_own ms (λ i n is. each (suc i) n is))
 
-pub law : {H : Type 0} → OwnLinesLaw → CodeMakes → (moves : H → List ℕ → ℕ → Result (List ℕ) ShelfError → H → Type 0) → LoadedMakes moves
+pub law : {H : Type 0} → OwnLinesLaw → CodeMakesFunctions → (moves : H → List ℕ → ℕ → Result (List ℕ) ShelfError → H → Type 0) → LoadedMakes moves
 law own makes moves old new script name l loads compiled =
     makes (modules_of l.programs) (loaded_modules l) compiled.faithful compiled.well_formed
     (all_own (loaded_modules l) (λ i m is. let file = reading moves old new script name (loaded_modules l) loads i m is in let tree = file.read.0 in own (chars file.bytes) tree.tokens m.body tree.read.spelled tree.spelled))

@@ -4,9 +4,9 @@ use Rattle.std.specs.Prelude.{slice_get}
 use Rattle.std.proofs.lemmas.List.Elements.{All-nil, All-cons, All-head, All-tail}
 use Rattle.cov_outside.specs.declared.shelf.ShelfError.{ShelfError}
 use Rattle.py_syntax.specs.Marks.{statement_lines}
-use Rattle.py_lines.specs.Lines.{IsLine, LinesLaw}
+use Rattle.py_line_laws.specs.Lines.{IsLine, LinesLaw}
 use Rattle.py_meaning.specs.Modules.{LoadedModule}
-use Rattle.py_sound.specs.Sound.{IsProper}
+use Rattle.py_prediction_laws.specs.Sound.{IsProper}
 use Rattle.cov_run_laws.specs.LoadedPrograms.{LoadedAreProper}
 use Rattle.cov_run_laws.proofs.Readings.{reading}
 

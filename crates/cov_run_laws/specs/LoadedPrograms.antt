@@ -4,9 +4,9 @@
 use Rattle.std.specs.Prelude.{ℕ, List, All, Result, Ok}
 use Rattle.cov_outside.specs.declared.shelf.ShelfError.{ShelfError}
 use Rattle.py_code.specs.Loaded.{modules_of}
-use Rattle.py_fits.specs.Making.{AreMakers}
+use Rattle.py_world_laws.specs.Making.{AreMakers}
 use Rattle.py_meaning.specs.Modules.{LoadedModule}
-use Rattle.py_sound.specs.Sound.{IsProper}
+use Rattle.py_prediction_laws.specs.Sound.{IsProper}
 use Rattle.py_syntax.specs.Tree.{Text}
 use Rattle.cov_run.specs.declared.programs.Loaded.{Loaded}
 use Rattle.cov_run.specs.Loads.{IsCompiled, Loads, loaded_modules}

@@ -6,9 +6,8 @@
 ghost use Rattle.cov_run_laws.specs.LoadedPrograms.{LoadedAreProper, LoadedMakes};
 
 use cov_outside::Shelf;
-use py_lines::lines_of_texts;
-use py_makers::code_makes;
-use py_own_lines::own_lines;
+use py_line_laws::{lines_of_texts, own_lines};
+use py_making_laws::code_makes;
 
 /// The code of a program that `load` gave makes functions as its units ask. So runs and calls of
 /// `py_machine` keep a store fitting it.
@@ -19,8 +18,8 @@ pub fn loaded_makes<H: Shelf>()
     own_lines();
 }
 
-/// Its modules are such as the laws of `py_sound` ask for. So the arcs of its runs and calls are
-/// foreseen.
+/// Its modules are such as the laws of `py_prediction_laws` ask for. So the arcs of its runs and
+/// calls are foreseen.
 pub fn loaded_are_proper<H: Shelf>()
     ensures { LoadedAreProper H.reads }
 {

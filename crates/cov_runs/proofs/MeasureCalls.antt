@@ -9,7 +9,7 @@ use Rattle.py_machine.specs.declared.engine.Engine.{Ghosts as EngineOf}
 use Rattle.py_meaning.specs.Modules.{LoadedModule}
 use Rattle.py_syntax.specs.Prediction.{Arc}
 use Rattle.py_syntax.specs.Tree.{Text}
-use Rattle.py_trace.specs.Traces.{AreWellFormed}
+use Rattle.py_compile_laws.specs.Traces.{AreWellFormed}
 use Rattle.cov_hook.specs.View.{state_of}
 use Rattle.cov_hook.specs.declared.hook.Hook.{Hook}
 use Rattle.cov_hook_laws.specs.MeantHooks.{MeantHook}

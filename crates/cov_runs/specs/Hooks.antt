@@ -2,7 +2,7 @@
 --     IsHookOf, HookAs         a hook that loaded files mean; or none
 --     AnsweredAs, HookFollows  code that follows a program which gives one
 use Rattle.std.specs.Prelude.{◌≡◌, Option, Some, None, Result, Ok, Err}
-use Rattle.py_trace.specs.Traces.{AreWellFormed}
+use Rattle.py_compile_laws.specs.Traces.{AreWellFormed}
 use Rattle.cov_hook.specs.declared.hook.Hook.{Hook}
 use Rattle.cov_hook.specs.View.{state_of}
 use Rattle.cov_hook_laws.specs.Laws.{with_trees}

@@ -25,7 +25,7 @@ use Rattle.cov_sql.proofs.RowOrder.{rows_rise, paths_rise, contexts_rise, IsSoun
 use Rattle.cov_sql.proofs.KeptOrder.{kept_cmp, kept_rise}
 use Rattle.cov_sql.proofs.Again.{made_again}
 use Rattle.cov_sql.proofs.Numbered.{numbered_fields, paths_numbered, texts_numbered}
-use Rattle.cov_sql.proofs.Places.{arc_fields, hits_fields, kept, each_counted, IsAt, rows_at, read_so}
+use Rattle.cov_sql.proofs.Places.{arc_fields, hits_fields, kept, each_counted, IsRowAt, rows_at, read_so}
 
 pub less_then : (a b c d x : Ordering) → ordering_then a (ordering_then b (ordering_then c d)) ≡ Less → ordering_then a (ordering_then b (ordering_then c (ordering_then d x))) ≡ Less
 less_then Less b c d x h = refl
@@ -79,7 +79,7 @@ entries_rise (r ∷ rs) (s ∷ ss) h = (entries_below r s rs ss h.0, entries_ris
 
 module _ (ps cs : List Text) (counts : Spot → ℕ) where
   abbrev Stands : RowView → Spot → Type 0
-  Stands r q = IsAt ps cs true counts r q
+  Stands r q = IsRowAt ps cs true counts r q
 
   joined_one : (r : RowView) (s : SavedRow) → Stands r (spot_of s)
       → joined_if (arc_key (arc_fields s)) (texts_of (numbered_fields 1 ps)) (texts_of (numbered_fields 1 cs)) ≡ entry_at r (spot_of s) ∷ []

@@ -26,7 +26,7 @@ use Rattle.cov_sql.proofs.RowOrder.{rows_rise, paths_rise, contexts_rise, IsSoun
 use Rattle.cov_sql.proofs.KeptOrder.{kept_rise}
 use Rattle.cov_sql.proofs.Again.{made_again}
 use Rattle.cov_sql.proofs.Numbered.{numbered_fields, paths_numbered, texts_numbered}
-use Rattle.cov_sql.proofs.Places.{bits_fields, hits_fields, kept, each_counted, IsAt, rows_at, read_so}
+use Rattle.cov_sql.proofs.Places.{bits_fields, hits_fields, kept, each_counted, IsRowAt, rows_at, read_so}
 use Rattle.cov_sql.proofs.Arcs.{is_true, a_row}
 
 -- ---- the text of a number
@@ -80,7 +80,7 @@ less_two Greater b x h = h
 
 module _ (ps cs : List Text) (counts : Spot → ℕ) where
   abbrev Stands : RowView → Spot → Type 0
-  Stands r q = IsAt ps cs false counts r q
+  Stands r q = IsRowAt ps cs false counts r q
 
   abbrev blob_entry : SavedBits → Entry
   blob_entry b = record { file = b.file_id; context = b.context_id; first = bits b.numbits.items; second = neither; path = named ps b.file_id; label = named cs b.context_id }

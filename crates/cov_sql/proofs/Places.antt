@@ -1,6 +1,6 @@
 -- Rows that are kept of data: `hits` has the count of each.
 --     arc_fields, bits_fields, hits_fields, kept      the fields of kept rows; the tables with them
---     IsAt, rows_at                                   a row of data stands at a spot, and is counted there; all do
+--     IsRowAt, rows_at                                   a row of data stands at a spot, and is counted there; all do
 --     none_bad, read_so                               entries without a bad one; what is read of them
 use Rattle.std.proofs.Common.{◌≡◌, ℕ, ◌+◌, ◌<◌, ◌≤◌, ℤ, pos, Bool, true, false, cond, List, [], ◌∷◌, ◌++◌, map, codes, Option, Some, None, refl, ap, ◌∙◌, lt-ltb, le-leb}
 use Rattle.std.specs.Prelude.{◌&&◌}
@@ -82,7 +82,7 @@ in_bounds n low high = λ i. cond (lt-ltb 0 n low i && le-leb n 4294967295 high 
 
 -- ---- rows of data at spots
 
-pub record IsAt (ps cs : List Text) (arcs : Bool) (counts : Spot → ℕ) (r : RowView) (q : Spot) : Type 0 where
+pub record IsRowAt (ps cs : List Text) (arcs : Bool) (counts : Spot → ℕ) (r : RowView) (q : Spot) : Type 0 where
   pub file : IsNumbered ps r.path q.file_id
   pub context : IsNumbered cs r.context q.context_id
   pub from : q.from ≡ r.from
@@ -91,7 +91,7 @@ pub record IsAt (ps cs : List Text) (arcs : Bool) (counts : Spot → ℕ) (r : R
   pub sound : IsSoundRow arcs r
 
 module _ (ps cs : List Text) (arcs : Bool) (all : List SavedRow) where
-  row_at : (r : RowView) (s : SavedRow) → IsSavedRow ps cs r s → counts_of all (spot_of s) ≡ Some s.count ∷ [] → IsSoundRow arcs r → IsAt ps cs arcs (count_of (map hits_fields all)) r (spot_of s)
+  row_at : (r : RowView) (s : SavedRow) → IsSavedRow ps cs r s → counts_of all (spot_of s) ≡ Some s.count ∷ [] → IsSoundRow arcs r → IsRowAt ps cs arcs (count_of (map hits_fields all)) r (spot_of s)
   row_at r s h one sound = record {
     file = h.file;
     context = h.context;
@@ -101,7 +101,7 @@ module _ (ps cs : List Text) (arcs : Bool) (all : List SavedRow) where
     sound = sound;
   }
 
-  pub rows_at : (rs : List RowView) (ss : List SavedRow) → AllZip (IsSavedRow ps cs) rs ss → AreCounted all ss → AllByRecursion (IsSoundRow arcs) rs → AllZip (IsAt ps cs arcs (count_of (map hits_fields all))) rs (map spot_of ss)
+  pub rows_at : (rs : List RowView) (ss : List SavedRow) → AllZip (IsSavedRow ps cs) rs ss → AreCounted all ss → AllByRecursion (IsSoundRow arcs) rs → AllZip (IsRowAt ps cs arcs (count_of (map hits_fields all))) rs (map spot_of ss)
   rows_at [] [] h one sound = tt
   rows_at [] (s ∷ ss) h one sound = absurd h
   rows_at (r ∷ rs) [] h one sound = absurd h

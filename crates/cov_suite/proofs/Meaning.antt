@@ -29,11 +29,11 @@ use Rattle.py_meaning.specs.Crossings.{crossings, lines_crossed}
 use Rattle.py_meaning.specs.Events.{events_in}
 use Rattle.py_meaning.specs.Modules.{LoadedModule}
 use Rattle.py_meaning.specs.Program.{Request}
-use Rattle.py_sound.specs.Sound.{IsProper}
+use Rattle.py_prediction_laws.specs.Sound.{IsProper}
 use Rattle.py_syntax.specs.Marks.{statement_lines}
 use Rattle.py_syntax.specs.Prediction.{Arc}
 use Rattle.py_syntax.specs.Tree as tree
-use Rattle.py_trace.specs.Traces.{AreWellFormed, TracesKept}
+use Rattle.py_compile_laws.specs.Traces.{AreWellFormed, TracesKept}
 use Rattle.cov_suite.specs.Meant.{AreTested, IsMeantData}
 use Rattle.cov_suite.specs.Recorded.{WasRecorded}
 use Rattle.cov_suite.specs.Results.{words, TestView, result_of, import_of_code, result_of_code, suite_of_code, import_of, test_of, result_of_tree, suite_of}

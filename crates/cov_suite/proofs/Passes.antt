@@ -10,7 +10,7 @@ use Rattle.py_compile.specs.Laws.{UnitsAreFaithful}
 use Rattle.py_compile.specs.ProgramRuns.{AreFaithful}
 use Rattle.py_meaning.specs.Modules.{LoadedModule}
 use Rattle.py_syntax.specs.Tree.{Text}
-use Rattle.py_trace.specs.Traces.{AreWellFormed, TracesKept}
+use Rattle.py_compile_laws.specs.Traces.{AreWellFormed, TracesKept}
 use Rattle.cov_suite.specs.declared.runs.Ended.{Ended}
 use Rattle.cov_suite.specs.Passing.{has_passed, passes_in_code, passes, all_pass_in_code, all_pass}
 use Rattle.cov_suite.specs.Recorded.{is_finished, ImportRan, TestRan}

@@ -21,7 +21,7 @@ use Rattle.py_machine.specs.declared.outcome.Answer.{Answer}
 use Rattle.py_machine.specs.declared.outcome.Ran.{Ran}
 use Rattle.py_machine.specs.Outcomes.{plain_outcome, plain_called}
 use Rattle.py_machine.specs.Runs.{IsRun, IsCall, request}
-use Rattle.py_machine.specs.Told.{Heard}
+use Rattle.py_machine.specs.Told.{OnInput}
 use Rattle.py_syntax.specs.Tree.{Text}
 use Rattle.cov_suite.specs.declared.runs.Ended.{Ended}
 use Rattle.cov_suite.specs.Recorded.{IsStep, TookAll, WasRecorded, is_finished, ImportRan, TestRan, Imports, Tests}
@@ -29,11 +29,11 @@ use Rattle.cov_suite.specs.Results.{words, end_of, result_of_code}
 use Rattle.cov_suite.specs.Rows.{nobody, sources_of}
 
 -- an input that is told to be empty
-on-empty : (tells : Type 0) (before after : List ℕ) (Q : List ℕ → List ℕ → Type 0) → tells → before ≡ [] → Heard tells before after Q → (rest : List ℕ) × Q [] rest
+on-empty : (tells : Type 0) (before after : List ℕ) (Q : List ℕ → List ℕ → Type 0) → tells → before ≡ [] → OnInput tells before after Q → (rest : List ℕ) × Q [] rest
 on-empty tells before after Q t e h = (h.rest, subst (λ all. Q all h.rest) ((h.told t).0 ∙ e) (h.holds h.input h.rest h.fed))
 
 module _ {T : Type 0} (moves : T → Event → T → Type 0) (ms : List Module) (budget : ℕ) (w left : World) (before after : T) (tells : Type 0) (i0 i1 : List ℕ) (t : tells) (none : i0 ≡ []) (wrote : List ℕ → Type 0) where
-  pub import-ran : (ran : Ran) (done : Bool) → done ≡ is_finished (plain_outcome ran.outcome) → Heard tells i0 i1 (IsRun (λ es. Takes moves before es after) wrote ms w budget ran left)
+  pub import-ran : (ran : Ran) (done : Bool) → done ≡ is_finished (plain_outcome ran.outcome) → OnInput tells i0 i1 (IsRun (λ es. Takes moves before es after) wrote ms w budget ran left)
       → ImportRan moves ms budget w left before after done
   import-ran ran done e h =
       let is = (on-empty tells i0 i1 (IsRun (λ es. Takes moves before es after) wrote ms w budget ran left) t none h).1 in
@@ -41,11 +41,11 @@ module _ {T : Type 0} (moves : T → Event → T → Type 0) (ms : List Module) 
 
 module _ {T : Type 0} (moves : T → Event → T → Type 0) (ms : List Module) (budget : ℕ) (w left : World) (before after : T) (tells : Type 0) (i0 i1 : List ℕ) (t : tells) (none : i0 ≡ []) (says : Type 0) (o0 o1 : List ℕ) (s : says) (first : o0 ≡ []) where
   pub test-ran : (text name : Text) → text ≡ name → (answer : Answer) (ended : Ended) → ended.end ≡ end_of (plain_called answer.called) → ended.output.items ≡ o1 → ended.steps ≡ answer.steps
-      → Heard tells i0 i1 (IsCall (λ es. Takes moves before es after) (Wrote says o0 o1) ms w (request 0 text []) budget answer left)
+      → OnInput tells i0 i1 (IsCall (λ es. Takes moves before es after) (Wrote says o0 o1) ms w (request 0 text []) budget answer left)
       → TestRan moves ms budget w name before after ended
   test-ran text name same answer ended end out steps h =
       let is = (on-empty tells i0 i1 (IsCall (λ es. Takes moves before es after) (Wrote says o0 o1) ms w (request 0 name []) budget answer left) t none
-      (subst (λ x. Heard tells i0 i1 (IsCall (λ es. Takes moves before es after) (Wrote says o0 o1) ms w (request 0 x []) budget answer left)) same h)).1 in
+      (subst (λ x. OnInput tells i0 i1 (IsCall (λ es. Takes moves before es after) (Wrote says o0 o1) ms w (request 0 x []) budget answer left)) same h)).1 in
       let reply = called (by_slots ms) ms w [] (request 0 name []) budget in
       let e : ended.end ≡ end_of reply.returned = end ∙ ap end_of is.returned in
       let o : ended.output.items ≡ reply.out = out ∙ is.written s ∙ ap (λ bs. bs ++ reply.out) first in

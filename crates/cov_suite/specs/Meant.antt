@@ -20,7 +20,7 @@ use Rattle.py_meaning.specs.Activations.{Items}
 use Rattle.py_meaning.specs.Crossings.{crossings, lines_crossed}
 use Rattle.py_meaning.specs.Modules.{LoadedModule, body_of}
 use Rattle.py_syntax.specs.Prediction.{Arc, possible}
-use Rattle.py_trace.specs.Traces.{AreWellFormed}
+use Rattle.py_compile_laws.specs.Traces.{AreWellFormed}
 use Rattle.cov_suite.specs.declared.results.SuiteError.{SuiteError}
 use Rattle.cov_suite.specs.Results.{suite_of}
 use Rattle.cov_suite.specs.Rows.{sources_of}

@@ -4,7 +4,7 @@ ghost use Rattle.cov_measure_laws.specs.Leaving.{AreLeft};
 ghost use Rattle.cov_suite.specs.Recorded.{Imports};
 ghost use Rattle.cov_suite.specs.Results.{words};
 ghost use Rattle.py_code.specs.Loaded.{modules_of, most_numbered};
-ghost use Rattle.py_store.specs.Stores.{words_of, world_of};
+ghost use Rattle.py_world.specs.Stores.{words_of, world_of};
 
 use crate::recorders::{finish_recorder, new_recorder};
 use crate::runs::record_script;

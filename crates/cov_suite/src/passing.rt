@@ -5,8 +5,8 @@ ghost use Rattle.cov_suite.specs.Passing.{all_pass, all_pass_in_code, has_passed
 ghost use Rattle.py_code.specs.Loaded.{modules_of, most_numbered};
 ghost use Rattle.py_compile.specs.ProgramRuns.{AreFaithful};
 ghost use Rattle.py_meaning.specs.Modules.{LoadedModule};
-ghost use Rattle.py_store.specs.Stores.{world_of};
-ghost use Rattle.py_trace.specs.Traces.{AreWellFormed};
+ghost use Rattle.py_world.specs.Stores.{world_of};
+ghost use Rattle.py_compile_laws.specs.Traces.{AreWellFormed};
 
 use crate::imports::suite_words;
 use crate::results::TestEnd;
@@ -14,9 +14,9 @@ use crate::runs::{call_test, run_script};
 use cov_event::Silent;
 use py_code::Programs;
 use py_compile::units_are_faithful;
+use py_compile_laws::traces_kept;
 use py_machine::Store;
 use py_text::{NoMemory, Text};
-use py_trace::traces_kept;
 use std::alloc::Global;
 
 fn has_passed(end: &TestEnd) -> bool

@@ -7,7 +7,7 @@ ghost use Rattle.cov_suite.specs.Results.{end_of};
 ghost use Rattle.py_code.specs.Loaded.{modules_of, most_numbered};
 ghost use Rattle.py_machine.specs.Outcomes.{plain_called, plain_outcome};
 ghost use Rattle.py_machine.specs.Told.{CallsSome};
-ghost use Rattle.py_store.specs.Stores.{world_of};
+ghost use Rattle.py_world.specs.Stores.{world_of};
 
 use crate::results::TestEnd;
 use cov_contexts::Plugin;

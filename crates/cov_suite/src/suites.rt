@@ -26,7 +26,7 @@ use cov_predict::ArcSet;
 use cov_recorder::{RunPlan, UnitName, recorded_rows};
 use py_code::Programs;
 use py_compile::units_are_faithful;
-use py_trace::traces_kept;
+use py_compile_laws::traces_kept;
 use std::alloc::Global;
 
 /// Runs the script of the programs, which is the import, and then calls each of its tests on the

@@ -7,7 +7,7 @@ ghost use Rattle.cov_suite.specs.Results.{result_of_code};
 ghost use Rattle.cov_suite.specs.Rows.{lines_in};
 ghost use Rattle.cov_suite.specs.Views.{line_of, reached_lines, test_view};
 ghost use Rattle.py_code.specs.Loaded.{modules_of, most_numbered};
-ghost use Rattle.py_store.specs.Stores.{world_of};
+ghost use Rattle.py_world.specs.Stores.{world_of};
 
 use crate::data_lines::lines_in;
 use crate::imports::Import;

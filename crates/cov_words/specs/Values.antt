@@ -2,7 +2,7 @@
 use Rattle.std.specs.Prelude.{ℕ, Bool, ◌&&◌, nat_le, if◌then◌else◌, List, length, Option, Some, None, option_map, option_and_then}
 use Rattle.std.specs.List.{list_all}
 use Rattle.std.specs.Str.Parse.{digits_value}
-use Rattle.cov_forms.specs.Forms.{file_and_name}
+use Rattle.cov_file_names.specs.Forms.{file_and_name}
 
 -- the bytes of a word
 abbrev pub Word : Type 0

@@ -6,7 +6,7 @@ ghost use Rattle.cov_words.specs.Plain.{value_view};
 ghost use Rattle.cov_words.specs.Values.{is_digit, whole_number, number_up_to, value_of};
 
 use crate::options::OptionName;
-use cov_forms::file_and_name;
+use cov_file_names::file_and_name;
 
 /// What an option is given.
 #[derive(Clone, Copy)]

@@ -33,7 +33,7 @@ use Rattle.py_compile.specs.Statements.{guard_size, guard_code, stmts_size, case
 use Rattle.py_compile.specs.Ways.{Ways, in_hand}
 use Rattle.py_compile.proofs.Flow.{ways_less, thrown_is, uses, ends_on, led_on, mark_runs}
 use Rattle.py_compile.proofs.Forms.{here, StmtsRun, KindRuns, CasesRun, marked_uses, forks}
-use Rattle.py_compile.proofs.PatternNames.{names_in, values_in, as_many, HasNames, has_names}
+use Rattle.py_compile.proofs.PatternNames.{captured_names, values_in, as_many, HasNames, has_names}
 use Rattle.py_compile.proofs.PatternOperands.{Falls}
 use Rattle.py_compile.proofs.PatternRuns.{after_match, pattern_runs}
 use Rattle.py_compile.proofs.Sizes.{stmts_length, guard_length}
@@ -71,14 +71,14 @@ module _ (cs : List Module) (ms : List LoadedModule) (matches : Matches cs ms) (
   pl = part_of ms u w.code handled
 
   -- the names of a match are bound
-  bind_runs : (ns : Names) (xs : List Text) → names_in ns ≡ xs → (g : Option Guard) (p : ℕ) → HasAt u p (names_code g xs) → (st : List Operand) (s : State) (n : ℕ)
+  bind_runs : (ns : Names) (xs : List Text) → captured_names ns ≡ xs → (g : Option Guard) (p : ℕ) → HasAt u p (names_code g xs) → (st : List Operand) (s : State) (n : ℕ)
       → going cs w p (pushed (values_in ns) st) s n ≡ going cs w (p + names_size xs) st (put (bind_all pl.scope ns) s) n
   bind_runs [] [] e g p has st s n = ap (λ m. going cs w m st s n) (omega arith)
   bind_runs [] (x ∷ xs) e g p has st s n = absurd cc
   bind_runs (a ∷ ns) [] e g p has st s n = absurd cc
   bind_runs (a ∷ ns) (x ∷ xs) e g p has st s n =
       let named : a.0 ≡ x = cc in
-      let rest : names_in ns ≡ xs = cc in
+      let rest : captured_names ns ≡ xs = cc in
       let count : length xs ≡ length (values_in ns) + 0 = ap length (sym rest) ∙ (sym (as_many ns) ∙ omega arith) in
       let ys = pushed (values_in ns) (of_value a.1 ∷ st) in
       let d = conf w p ys s n in

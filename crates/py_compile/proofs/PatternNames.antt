@@ -15,15 +15,15 @@ use Rattle.py_meaning.specs.Places.{Scope, fetched}
 use Rattle.py_compile_expr.specs.Patterns.{captured, captured_each}
 use Rattle.py_compile.specs.Proper.{BindsNone, NoneBind, ProperPattern, ProperPatterns}
 
-abbrev pub names_in : Names → List Text
-names_in [] = []
-names_in (n ∷ ns) = n.0 ∷ names_in ns
+abbrev pub captured_names : Names → List Text
+captured_names [] = []
+captured_names (n ∷ ns) = n.0 ∷ captured_names ns
 
 abbrev pub values_in : Names → List PlainValue
 values_in [] = []
 values_in (n ∷ ns) = n.1 ∷ values_in ns
 
-pub names_append : (ms ns : Names) → names_in (ms ++ ns) ≡ names_in ms ++ names_in ns
+pub names_append : (ms ns : Names) → captured_names (ms ++ ns) ≡ captured_names ms ++ captured_names ns
 names_append [] ns = refl
 names_append (m ∷ ms) ns = ap (λ xs. m.0 ∷ xs) (names_append ms ns)
 
@@ -31,14 +31,14 @@ pub values_append : (ms ns : Names) → values_in (ms ++ ns) ≡ values_in ms ++
 values_append [] ns = refl
 values_append (m ∷ ms) ns = ap (λ xs. m.1 ∷ xs) (values_append ms ns)
 
-pub as_many : (ns : Names) → length (values_in ns) ≡ length (names_in ns)
+pub as_many : (ns : Names) → length (values_in ns) ≡ length (captured_names ns)
 as_many [] = refl
 as_many (n ∷ ns) = ap suc (as_many ns)
 
 -- it has these names, where it is a match
 abbrev pub HasNames : List Text → Ans Match → Type 0
 HasNames xs (Ok None) = Unit {0}
-HasNames xs (Ok (Some ns)) = names_in ns ≡ xs
+HasNames xs (Ok (Some ns)) = captured_names ns ≡ xs
 HasNames xs (Err e) = Unit {0}
 
 names_of : {A : Type 0} (xs : List Text) (r : Ans A) (f : A → Ans Match) → ((a : A) → HasNames xs (f a)) → HasNames xs (r >>= f)
@@ -52,7 +52,7 @@ names_if false = tt
 names_both : (xs ys : List Text) (m : Match) (rest : Ans Match) → HasNames xs (Ok m) → HasNames ys rest → HasNames (xs ++ ys) (and_then m rest)
 names_both xs ys None rest h g = tt
 names_both xs ys (Some ns) (Ok None) h g = tt
-names_both xs ys (Some ns) (Ok (Some more)) h g = names_append ns more ∙ (ap (λ zs. zs ++ names_in more) h ∙ ap (λ zs. xs ++ zs) g)
+names_both xs ys (Some ns) (Ok (Some more)) h g = names_append ns more ∙ (ap (λ zs. zs ++ captured_names more) h ∙ ap (λ zs. xs ++ zs) g)
 names_both xs ys (Some ns) (Err e) h g = tt
 
 names_then : (xs ys : List Text) (r rest : Ans Match) → HasNames xs r → HasNames ys rest → HasNames (xs ++ ys) (r >>= λ m. and_then m rest)

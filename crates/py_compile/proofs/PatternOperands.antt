@@ -10,7 +10,7 @@ use Rattle.py_compile_expr.specs.Cells.{Guard}
 use Rattle.py_compile_expr.specs.Runs.{Fits}
 use Rattle.py_compile_expr.proofs.Pushed.{pushed, length_pushed}
 use Rattle.py_compile_expr.proofs.Simulation.{fits_more}
-use Rattle.py_compile.proofs.PatternNames.{names_in}
+use Rattle.py_compile.proofs.PatternNames.{captured_names}
 use Rattle.py_compile.proofs.TargetRuns.{same_number}
 
 -- ---- operands in front of others
@@ -46,7 +46,7 @@ pub spread_length : (vs : List PlainValue) → length (map of_value vs) ≡ leng
 spread_length [] = refl
 spread_length (v ∷ vs) = ap suc (spread_length vs)
 
-pub no_names_left : (ns : Names) → names_in ns ≡ [] → ns ≡ []
+pub no_names_left : (ns : Names) → captured_names ns ≡ [] → ns ≡ []
 no_names_left [] e = refl
 no_names_left (n ∷ ns) e = absurd cc
 

@@ -36,7 +36,7 @@ use Rattle.py_compile_expr.proofs.Simulation.{fits_less, fits_more, truth_on_top
 use Rattle.py_compile_expr.proofs.Sizes.{pattern_length}
 use Rattle.py_compile.specs.Proper.{BindsNone, NoneBind, ProperPattern, ProperPatterns}
 use Rattle.py_compile.proofs.Flow.{dropping_runs, led_on}
-use Rattle.py_compile.proofs.PatternNames.{names_in, values_in, values_append, as_many, HasNames, none_captured, is_proper, has_names}
+use Rattle.py_compile.proofs.PatternNames.{captured_names, values_in, values_append, as_many, HasNames, none_captured, is_proper, has_names}
 use Rattle.py_compile.proofs.PatternOperands.{append_more, length_more, take_front, drop_front, pushed_append, no_names_left, length_is, Falls, falls_fewer, at_least, texts_more, waits, item_falls, rest_falls, as_falls, alone_falls, fits_over}
 
 -- what follows a match: its values stand below those that wait, or the operands that were left
@@ -158,7 +158,7 @@ module _ (cs : List Module) (ms : List LoadedModule) (matches : Matches cs ms) (
 
   -- a match of one pattern with a match of others after it
   then_both : (m : ℕ) (s : Site) (mid end : ℕ) (V W R F : List Operand) (r rest : Ans Match) (xs : List Text) (first : End) → first ≡ after_match cs w (with_waiting m s) mid V R F r t n → HasNames xs r
-      → ((ns : Names) → names_in ns ≡ xs → going cs w mid (V ++ pushed (values_in ns) R) t n ≡ after_match cs w s end W R F (and_then (Some ns) rest) t n) → first ≡ after_match cs w s end W R F (r >>= λ found. and_then found rest) t n
+      → ((ns : Names) → captured_names ns ≡ xs → going cs w mid (V ++ pushed (values_in ns) R) t n ≡ after_match cs w s end W R F (and_then (Some ns) rest) t n) → first ≡ after_match cs w s end W R F (r >>= λ found. and_then found rest) t n
   then_both m s mid end V W R F (Ok None) rest xs first e h next = e
   then_both m s mid end V W R F (Ok (Some ns)) rest xs first e h next = e ∙ next ns h
   then_both m s mid end V W R F (Err x) rest xs first e h next = e

@@ -5,7 +5,7 @@ use Rattle.py_code.specs.declared.unit.Unit.{Unit as RawUnit}
 use Rattle.py_code.specs.Machine.{act}
 use Rattle.py_code.specs.Slots.{by_slots}
 use Rattle.py_code.specs.Units.{Module, plain_unit}
-use Rattle.py_store.specs.declared.store.Store.{Store}
+use Rattle.py_world.specs.declared.store.Store.{Store}
 use Rattle.py_instructions.specs.declared.frame.State.{State}
 use Rattle.py_instructions.specs.declared.turn.Turn.{Turn}
 use Rattle.py_instructions.specs.View.{plain_operands, seen, Acts, ActsIn, ActsAlone}

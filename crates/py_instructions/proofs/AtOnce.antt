@@ -27,8 +27,8 @@ use Rattle.py_code.specs.Operands.{value_in, asked}
 use Rattle.py_code.specs.Run.{Goes}
 use Rattle.py_code.specs.Slots.{by_slots, held}
 use Rattle.py_code.specs.Units.{Module, plain_unit, unit_at, constant_value}
-use Rattle.py_store.specs.declared.store.Store.{Store}
-use Rattle.py_store.specs.Stores.{world_of}
+use Rattle.py_world.specs.declared.store.Store.{Store}
+use Rattle.py_world.specs.Stores.{world_of}
 use Rattle.py_instructions.specs.declared.frame.State.{State}
 use Rattle.py_instructions.specs.declared.operand.Operand.{Operand as RawOperand}
 use Rattle.py_instructions.specs.declared.operand.Operand.TheVariants.{Value as OfValue}

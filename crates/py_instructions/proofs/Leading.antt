@@ -7,7 +7,7 @@ use Rattle.py_code.specs.Units.{Module}
 use Rattle.py_instructions.specs.declared.frame.State.{State}
 use Rattle.py_instructions.specs.declared.turn.Turn.{Turn}
 use Rattle.py_instructions.specs.View.{Outside, plain_operands, effects_of, seen, Calls}
-use Rattle.py_store.specs.declared.store.Store.{Store}
+use Rattle.py_world.specs.declared.store.Store.{Store}
 
 -- a call that leads to the same does the same
 pub leads_as : (ms : List Module) (f g : Effects → Reach) (m m2 : State) (s s2 : Store) → ((o : Outside) → f (effects_of s o) ≡ g (effects_of s o))

@@ -15,7 +15,7 @@ use Rattle.py_code.specs.Machine.{by_answer, calls, makes, pushes_answer, throw}
 use Rattle.py_code.specs.Operands.{value_in}
 use Rattle.py_code.specs.Slots.{by_slots}
 use Rattle.py_code.specs.Units.{Module}
-use Rattle.py_store.specs.declared.store.Store.{Store}
+use Rattle.py_world.specs.declared.store.Store.{Store}
 use Rattle.py_instructions.specs.declared.frame.State.{State}
 use Rattle.py_instructions.specs.declared.turn.Turn.{Turn}
 use Rattle.py_instructions.specs.View.{Slots, Outside, plain_operands, effects_of, seen, turned, Does, TakesValue, TakesTwoValues, TakesValues}

@@ -3,7 +3,7 @@ use Rattle.std.proofs.Common.{◌≡◌, ℕ, zero, suc, ◌+◌, ◌-◌, ◌<�
 use Rattle.std.specs.Prelude.{slice_get, remove, reverse, nat_le, MatchOption}
 use Rattle.std.proofs.lemmas.Bool.Decides.{nat_tests}
 use Rattle.std.proofs.lemmas.List.{map-append, length-map, reverse-append}
-use Rattle.py_store.proofs.Lookups.{mapped, mapped_none, map-take, map-drop, map-remove}
+use Rattle.py_world.proofs.Lookups.{mapped, mapped_none, map-take, map-drop, map-remove}
 
 le_true : (a b : ℕ) → a ≤ b → nat_le a b ≡ true
 le_true a b h = grind (arith, nat_tests)

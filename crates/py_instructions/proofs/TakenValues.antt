@@ -18,10 +18,10 @@ use Rattle.py_instructions.specs.declared.frame.State.{State}
 use Rattle.py_instructions.specs.declared.operand.Operand.{Operand as RawOperand}
 use Rattle.py_instructions.specs.declared.operand.Operand.TheVariants.{Way as OfWay}
 use Rattle.py_instructions.specs.declared.operand.Way.TheVariants.{Raise}
-use Rattle.py_store.specs.declared.store.Store.{Store}
+use Rattle.py_world.specs.declared.store.Store.{Store}
 use Rattle.py_instructions.specs.Operands.{plain_operand}
 use Rattle.py_instructions.specs.View.{Slots, Outside, plain_operands, seen}
-use Rattle.py_store.proofs.Lookups.{map-drop}
+use Rattle.py_world.proofs.Lookups.{map-drop}
 use Rattle.py_instructions.proofs.Taken.{rest_after, front_after, map-reverse}
 
 le_true : (a b : ℕ) → a ≤ b → nat_le a b ≡ true

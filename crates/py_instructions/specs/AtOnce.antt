@@ -16,7 +16,7 @@ use Rattle.py_instructions.specs.declared.frame.State.{State}
 use Rattle.py_instructions.specs.declared.operand.Operand.{Operand as RawOperand}
 use Rattle.py_instructions.specs.declared.turn.Turn.TheVariants.{Goes as TurnGoes}
 use Rattle.py_instructions.specs.View.{Slots, ActsIn, DoesAlone}
-use Rattle.py_store.specs.declared.store.Store.{Store}
+use Rattle.py_world.specs.declared.store.Store.{Store}
 
 -- all of an instruction was done, in the same code, and the machine goes on; or nothing was done
 abbrev pub DoneAtOnce : Bool → RawUnit → Instr → State → Store → State → Type 0

@@ -1,7 +1,7 @@
 -- Slots in memory, as the definition has them.
 use Rattle.std.specs.Prelude.{List, map, Option}
 use Rattle.py_value.specs.Plain.{PlainValue}
-use Rattle.py_store.specs.Values.{plain_option}
+use Rattle.py_world.specs.Values.{plain_option}
 use Rattle.py_instructions.specs.declared.slots.Slots.{Slots}
 
 -- each slot with its value, or unset

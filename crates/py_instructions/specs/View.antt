@@ -30,10 +30,10 @@ use Rattle.py_code.specs.Units.{Code, Module, plain_unit}
 use Rattle.py_instructions.specs.declared.frame.Frame.{Frame as RawFrame}
 use Rattle.py_instructions.specs.declared.frame.State.{State}
 use Rattle.py_instructions.specs.declared.operand.Operand.{Operand as RawOperand}
-use Rattle.py_store.specs.declared.store.Store.{Store}
+use Rattle.py_world.specs.declared.store.Store.{Store}
 use Rattle.py_instructions.specs.declared.turn.Turn.{Turn}
 use Rattle.py_instructions.specs.declared.turn.Turn.TheVariants.{Goes as TurnGoes, Steps, Tells, Throws, Escapes, Gives, Asks, Spent, Stuck}
-use Rattle.py_store.specs.Stores.{world_of}
+use Rattle.py_world.specs.Stores.{world_of}
 use Rattle.py_instructions.specs.Locals.{slots_of}
 use Rattle.py_instructions.specs.Operands.{plain_operand}
 

@@ -5,7 +5,7 @@ ghost use Rattle.py_instructions.specs.View.{Outside, seen};
 
 use crate::frame::State;
 use py_code::Programs;
-use py_store::{Store, unit_in};
+use py_world::{Store, unit_in};
 
 /// The most instructions of one call, so that it ends where jumps lead in a circle.
 const MOST_AT_ONCE: u32 = 64;

@@ -1,5 +1,6 @@
-// Instructions that are done at once, of names and constants, whole numbers, and jumps. Each may do
-// nothing, and no clause says when.
+// Instructions that are done at once: constants, names, stores of local names, operators and
+// comparisons of whole numbers, jumps, and values that are taken from the top. Each may do nothing,
+// and no clause says when.
 ghost use Rattle.std.specs.Prelude.{◌≡◌, ◌<◌, IfSome, Ok};
 ghost use Rattle.py_code.specs.declared.instr.Instr.TheVariants.{Constant as Const, Pop, LoadLocal, StoreLocal, LoadGlobal, Binary, InPlace, Compare, Goto, IfFalse, IfTrue};
 ghost use Rattle.py_code.specs.Operands.{asked};
@@ -13,8 +14,8 @@ use crate::frame::State;
 use crate::numbered::numbered;
 use crate::operand::Operand;
 use py_code::{Constant, Instr, Question, Unit};
-use py_store::Store;
 use py_value::{BinOp, Value, calculate};
+use py_world::Store;
 
 /// A copy of a value, if it is None, a bool or a whole number.
 fn small(value: &Value) -> Option<Value>

@@ -21,9 +21,9 @@ use crate::turn::{Acted, Turn};
 use cov_event::{CodeId, Event};
 use py_builtins::call_method;
 use py_code::{Programs, Unit};
-use py_store::{Callee, Store, unit_in};
 use py_value::value::FuncId;
 use py_value::{Addr, Cause, Method, NoMemory, Raised, Value};
+use py_world::{Callee, Store, unit_in};
 use std::alloc::Global;
 
 /// The most frames that stand on each other.

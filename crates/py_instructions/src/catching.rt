@@ -6,14 +6,14 @@ ghost use Rattle.py_code.specs.Loaded.{modules_of};
 ghost use Rattle.py_code.specs.Machine.{land};
 ghost use Rattle.py_code.specs.Slots.{by_slots};
 ghost use Rattle.py_code.specs.Units.{handler_at};
-ghost use Rattle.py_store.specs.declared.store.Store.{Store as Kept};
+ghost use Rattle.py_world.specs.declared.store.Store.{Store as Kept};
 ghost use Rattle.py_instructions.specs.View.{Slots as SlotList, Outside, seen, catching};
 
 use crate::frame::State;
 use crate::operand::{Operand, Way, copy_raised};
 use py_code::Programs;
-use py_store::handler_in;
 use py_value::{NoMemory, Raised};
+use py_world::handler_in;
 
 impl State {
     /// Goes on at the handler of the present place, if there is one.

@@ -9,8 +9,8 @@ ghost use Rattle.py_instructions.specs.View.{Outside, seen, turned, Acts};
 use crate::frame::State;
 use crate::turn::Turn;
 use py_code::{Instr, Programs, Unit};
-use py_store::{Store, unit_in};
 use py_value::NoMemory;
+use py_world::{Store, unit_in};
 use std::alloc::Global;
 
 impl State {

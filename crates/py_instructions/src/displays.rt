@@ -9,8 +9,8 @@ use crate::operand::Operand;
 use crate::turn::{Acted, Turn};
 use py_builtins::str_of;
 use py_code::Unit;
-use py_store::Store;
 use py_value::{BinOp, Value, store as store_value, update};
+use py_world::Store;
 use std::alloc::Global;
 
 impl State {

@@ -4,7 +4,7 @@ ghost use Rattle.py_value.specs.View.{plain_value_answer};
 ghost use Rattle.py_code.specs.Machine.{falls, jumps, pushes_answer};
 ghost use Rattle.py_code.specs.Slots.{by_slots};
 ghost use Rattle.py_code.specs.Units.{Module};
-ghost use Rattle.py_store.specs.declared.store.Store.{Store as Kept};
+ghost use Rattle.py_world.specs.declared.store.Store.{Store as Kept};
 ghost use Rattle.py_instructions.specs.Operands.{plain_operand};
 ghost use Rattle.py_instructions.specs.View.{Does, DoesAlone};
 

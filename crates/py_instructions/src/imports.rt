@@ -3,7 +3,7 @@ ghost use Rattle.std.specs.Prelude.{◌<◌, ◌≤◌, length, IfOk};
 ghost use Rattle.py_code.specs.declared.instr.Instr.TheVariants.{Attribute, Method as MethodOf, Import, Module as LoadModule, Take};
 ghost use Rattle.py_code.specs.Loaded.{modules_of, most_numbered};
 ghost use Rattle.py_code.specs.Units.{plain_unit};
-ghost use Rattle.py_store.specs.declared.store.Store.{Store as Kept};
+ghost use Rattle.py_world.specs.declared.store.Store.{Store as Kept};
 ghost use Rattle.py_instructions.specs.View.{Acts, ActsIn};
 
 use crate::frame::State;
@@ -12,8 +12,8 @@ use crate::operand::Operand;
 use crate::turn::{Acted, Turn};
 use cov_event::CodeId;
 use py_code::{Programs, Unit};
-use py_store::{Store, attribute, callee_of, imported, imported_number, is_sys, no_module, taken};
 use py_value::Value;
+use py_world::{Store, attribute, callee_of, imported, imported_number, is_sys, no_module, taken};
 use std::alloc::Global;
 
 impl State {

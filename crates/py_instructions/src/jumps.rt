@@ -8,8 +8,8 @@ use crate::frame::State;
 use crate::operand::Operand;
 use crate::turn::{Acted, Turn};
 use py_code::{Question, Unit};
-use py_store::{Store, sequence_of};
 use py_value::{Value, truth};
+use py_world::{Store, sequence_of};
 use std::alloc::Global;
 
 impl State {

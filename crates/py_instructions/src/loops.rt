@@ -7,7 +7,7 @@ use crate::frame::State;
 use crate::operand::{Operand, Walk as Walked};
 use crate::turn::{Acted, Turn};
 use py_code::Unit;
-use py_store::{Store, item_of, walk_length};
+use py_world::{Store, item_of, walk_length};
 use std::alloc::{AllocError, Global};
 
 impl State {

@@ -7,7 +7,7 @@ ghost use Rattle.py_value.specs.View.{plain, plains, plain_outcome, plain_value_
 ghost use Rattle.py_builtins.specs.Making.{may_all_nest, new_tuple, slice_bound, sliced};
 ghost use Rattle.py_builtins.specs.Methods.{new_list};
 ghost use Rattle.py_code.specs.Operands.{text_in_value};
-ghost use Rattle.py_store.specs.Values.{plain_option};
+ghost use Rattle.py_world.specs.Values.{plain_option};
 
 use py_value::{Cause, Heap, Items, MOST_ITEMS, NoMemory, Raised, Text, Value, slice};
 use std::alloc::Global;

@@ -8,7 +8,7 @@ use crate::numbered::numbered;
 use crate::operand::Operand;
 use crate::turn::{Acted, Turn};
 use py_code::Unit;
-use py_store::{Store, local_unset, name_unknown};
+use py_world::{Store, local_unset, name_unknown};
 use std::alloc::Global;
 
 impl State {

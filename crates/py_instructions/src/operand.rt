@@ -4,11 +4,11 @@ ghost use Rattle.py_value.specs.Plain.{none_value, bool_value, int_value};
 ghost use Rattle.py_value.specs.View.{plain, plain_raised};
 ghost use Rattle.py_code.specs.Configurations.{of_value, on};
 ghost use Rattle.py_code.specs.Operands.{value_in, callee_in, operand_of, walk_in, way_in, exception_of_way, exception_in};
-ghost use Rattle.py_store.specs.Values.{plain_callee};
+ghost use Rattle.py_world.specs.Values.{plain_callee};
 ghost use Rattle.py_instructions.specs.Operands.{plain_way, plain_operand, plain_walk, is_builtin, borrows_values};
 
-use py_store::Callee;
 use py_value::{Argument, ExcKind, Method, NoMemory, Raised, Value};
+use py_world::Callee;
 use std::alloc::Global;
 
 /// The way in which a suite is left.

@@ -11,7 +11,7 @@ ghost use Rattle.py_code.specs.Machine.{act, makes};
 ghost use Rattle.py_code.specs.Operands.{value_in};
 ghost use Rattle.py_code.specs.Slots.{by_slots};
 ghost use Rattle.py_code.specs.Units.{Code, Module};
-ghost use Rattle.py_store.specs.Values.{plain_option};
+ghost use Rattle.py_world.specs.Values.{plain_option};
 ghost use Rattle.py_instructions.specs.Operands.{plain_operand, borrows_if_any};
 ghost use Rattle.py_instructions.specs.View.{Slots, plain_operands, Discards, Inserts, TakesValues, TakesValue, TakesTwo, TakesTwoValues, TakesTruth};
 

@@ -9,8 +9,8 @@ use crate::making::sliced;
 use crate::operand::Operand;
 use crate::turn::{Acted, Turn};
 use py_code::{Bounds, Question, Unit};
-use py_store::{Store, sequence_of, unpacked};
 use py_value::{BinOp, Value, binary, in_place, index, store as store_value};
+use py_world::{Store, sequence_of, unpacked};
 use std::alloc::Global;
 
 impl State {

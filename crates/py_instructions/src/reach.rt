@@ -10,9 +10,9 @@ ghost use Rattle.py_instructions.specs.View.{Outside, effects_of};
 use cov_event::CodeId;
 use py_builtins::exception_of;
 use py_code::Programs;
-use py_store::{Store, arguments, unit_in};
 use py_value::value::FuncId;
 use py_value::{Addr, Builtin, Cause, NoMemory, Raised, Value};
+use py_world::{Store, arguments, unit_in};
 use std::alloc::Global;
 
 /// A value or an exception at once, a frame, or a built-in function.

@@ -2,7 +2,7 @@
 ghost use Rattle.std.specs.Prelude.{◌≡◌, ◌++◌, ◌-◌, None, Some, length, map, replicate, slice_get, slice_set, IfOk, MatchOption};
 ghost use Rattle.py_value.specs.View.{plain, plains};
 ghost use Rattle.py_code.specs.Slots.{held};
-ghost use Rattle.py_store.specs.Values.{plain_option};
+ghost use Rattle.py_world.specs.Values.{plain_option};
 ghost use Rattle.py_instructions.specs.Locals.{slots_of};
 
 use py_value::{NoMemory, Value};

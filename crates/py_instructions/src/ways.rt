@@ -4,7 +4,7 @@ ghost use Rattle.py_code.specs.declared.instr.Instr.TheVariants.{Leave, Ending a
 ghost use Rattle.py_code.specs.Machine.{jumps, puts_way, resumes};
 ghost use Rattle.py_code.specs.Slots.{by_slots};
 ghost use Rattle.py_code.specs.Units.{Module, plain_unit};
-ghost use Rattle.py_store.specs.declared.store.Store.{Store as Kept};
+ghost use Rattle.py_world.specs.declared.store.Store.{Store as Kept};
 ghost use Rattle.py_instructions.specs.Operands.{plain_way};
 ghost use Rattle.py_instructions.specs.View.{Does, DoesAlone, ActsAlone};
 

@@ -13,8 +13,8 @@ use Rattle.py_code.proofs.Standing.{Stands}
 use Rattle.py_instructions.specs.declared.frame.State.{State}
 use Rattle.py_instructions.specs.AtOnce.{GoesOn, HasGoneOn}
 use Rattle.py_instructions.specs.View.{Slots, Outside, seen}
-use Rattle.py_store.specs.declared.store.Store.{Store}
-use Rattle.py_machine.specs.Told.{Hears, Reached}
+use Rattle.py_world.specs.declared.store.Store.{Store}
+use Rattle.py_machine.specs.Told.{PartOnInput, Reached}
 use Rattle.py_machine.proofs.Hearing.{hears_as}
 use Rattle.py_machine.proofs.Joins.{StandAt}
 
@@ -47,7 +47,7 @@ module _ (ms : List Module) (depths : CodeId → List ℕ) (valid : AreValid ms 
     near_ahead o = (led_at o).near
 
     pub reached_ahead : (took : List Event → Type 0) (wrote : List ℕ → Type 0) (before : Outside → Configuration Slots) (tells : Type 0) (i0 i1 : List ℕ) (was is : Bool)
-        → Hears tells i0 i1 was is (Reached took wrote ms before (seen m s)) → Hears tells i0 i1 was is (Reached took wrote ms before (seen m2 s))
+        → PartOnInput tells i0 i1 was is (Reached took wrote ms before (seen m s)) → PartOnInput tells i0 i1 was is (Reached took wrote ms before (seen m2 s))
     reached_ahead took wrote before tells i0 i1 was is =
         hears_as tells i0 i1 was is (Reached took wrote ms before (seen m s)) (Reached took wrote ms before (seen m2 s)) (λ all rest x. record {
           events = x.events;

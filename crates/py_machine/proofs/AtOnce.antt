@@ -20,8 +20,8 @@ use Rattle.py_code.specs.Configurations.{Effects, End}
 use Rattle.py_code.specs.Machine.{by_answer, by_done, outer_call, follows}
 use Rattle.py_code.specs.Slots.{by_slots}
 use Rattle.py_code.specs.Units.{Module}
-use Rattle.py_store.specs.declared.store.Store.{Store}
-use Rattle.py_store.specs.Stores.{world_of}
+use Rattle.py_world.specs.declared.store.Store.{Store}
+use Rattle.py_world.specs.Stores.{world_of}
 use Rattle.py_instructions.specs.View.{Outside, effects_of}
 use Rattle.py_code.specs.Programs.{reach_global}
 use Rattle.py_machine.specs.declared.ending.Ending.{Ending}
@@ -29,13 +29,13 @@ use Rattle.py_machine.specs.declared.ending.Ending.TheVariants.{Gave, Failed}
 use Rattle.py_instructions.specs.declared.reach.Reach.{Reach as RawReach}
 use Rattle.py_instructions.specs.declared.reach.Reach.TheVariants.{Gives as GivesValue, Raises, Asks}
 use Rattle.py_instructions.specs.Reaching.{plain_reach}
-use Rattle.py_machine.specs.Told.{Heard, Ran, ended}
+use Rattle.py_machine.specs.Told.{OnInput, Ran, ended}
 use Rattle.py_machine.proofs.Hearing.{heard_as, heard_nothing, of_reads}
 use Rattle.py_machine.proofs.Joins.{at, wrote_none}
 
 -- the run is the same as another
 pub ran_as : (tells : Type 0) (i0 i1 : List ℕ) (took : List Event → Type 0) (wrote : List ℕ → Type 0) (before other : Outside → End) (how : Ending) (steps : ℕ) (s : Store)
-    → ((o : Outside) → before o ≡ other o) → Heard tells i0 i1 (Ran took wrote other how steps s) → Heard tells i0 i1 (Ran took wrote before how steps s)
+    → ((o : Outside) → before o ≡ other o) → OnInput tells i0 i1 (Ran took wrote other how steps s) → OnInput tells i0 i1 (Ran took wrote before how steps s)
 ran_as tells i0 i1 took wrote before other how steps s h r =
     heard_as tells i0 (λ rest. rest ≡ i1) (Ran took wrote other how steps s) (Ran took wrote before how steps s) (λ all rest x. record {
       events = x.events;
@@ -47,7 +47,7 @@ ran_as tells i0 i1 took wrote before other how steps s h r =
 
 -- nothing is told, written and read
 pub ends_at_once : {T : Type 0} (moves : T → Event → T → Type 0) (a : T) (said : Type 0) (o0 : List ℕ) (tells : Type 0) (i0 : List ℕ) (before : Outside → End) (how : Ending) (steps : ℕ) (s : Store)
-    → ((o : Outside) → before o ≡ ended how steps (effects_of s o)) → Heard tells i0 i0 (Ran (λ es. Takes moves a es a) (Wrote said o0 o0) before how steps s)
+    → ((o : Outside) → before o ≡ ended how steps (effects_of s o)) → OnInput tells i0 i0 (Ran (λ es. Takes moves a es a) (Wrote said o0 o0) before how steps s)
 ends_at_once moves a said o0 tells i0 before how steps s h =
     heard_nothing tells i0 (Ran (λ es. Takes moves a es a) (Wrote said o0 o0) before how steps s) (λ all. record {
       events = [];
@@ -71,7 +71,7 @@ module _ {T : Type 0} (moves : T → Event → T → Type 0) (a : T) (said : Typ
   same (Err raised) e first other = refl
 
   -- a built-in function
-  pub asks_at_once : Heard tells i0 i1 (Ran (λ es. Takes moves a es a) (Wrote said o0 o1)
+  pub asks_at_once : OnInput tells i0 i1 (Ran (λ es. Takes moves a es a) (Wrote said o0 o1)
       (λ o. follows (by_slots ms) ms (outer_call (by_slots ms) ms (by_done (builtin_of which (plains values.items) (plain_heap s.heap) o.input) (effects_of s o)) budget (effects_of s o))) how budget s1)
   asks_at_once =
       heard_as tells i0 (λ rest. rest ≡ i1) (λ all rest. Gives (builtin_of which (plains values.items) (plain_heap s.heap) all) answer (Wrote said o0 o1) rest) _ (λ all rest gives.
@@ -102,16 +102,16 @@ module _ {T : Type 0} (moves : T → Event → T → Type 0) (a : T) (said : Typ
   abbrev answered : Result Value Raised → Outside → End
   answered x o = follows (by_slots ms) ms (outer_call (by_slots ms) ms (by_answer (plain_outcome x h) (effects_of s o)) budget (effects_of s o))
 
-  asks_as : (how : Ending) → ((o : Outside) → answered answer o ≡ ended how budget (effects_of s1 o)) → Heard tells i0 i1 (Ran (λ es. Takes moves a es a) (Wrote said o0 o1) leads how budget s1)
+  asks_as : (how : Ending) → ((o : Outside) → answered answer o ≡ ended how budget (effects_of s1 o)) → OnInput tells i0 i1 (Ran (λ es. Takes moves a es a) (Wrote said o0 o1) leads how budget s1)
   asks_as how k =
       ran_as tells i0 i1 (λ es. Takes moves a es a) (Wrote said o0 o1) leads _ how budget s1 (λ o. ap (λ x. follows (by_slots ms) ms (outer_call (by_slots ms) ms (plain_reach x (effects_of s o)) budget (effects_of s o))) is)
       (asks_at_once moves a said o0 o1 tells i0 i1 ms which values budget s s1 (plain_outcome answer h) how r k)
 
-  pub asks_gives : (v : Value) → answer ≡ Ok v → world_of s1 ≡ with_heap h (world_of s) → Heard tells i0 i1 (Ran (λ es. Takes moves a es a) (Wrote said o0 o1) leads (Gave v) budget s1)
+  pub asks_gives : (v : Value) → answer ≡ Ok v → world_of s1 ≡ with_heap h (world_of s) → OnInput tells i0 i1 (Ran (λ es. Takes moves a es a) (Wrote said o0 o1) leads (Gave v) budget s1)
   asks_gives v e w =
       asks_as (Gave v) (λ o. ap (λ x. answered x o) e ∙ ap (λ z. let f : Effects = record { world = z; input = o.input; out = o.out; events = o.events } in ended (Gave v) budget f) (sym w))
 
-  pub asks_raises : (raised : Raised) → answer ≡ Err raised → world_of s1 ≡ world_of s → Heard tells i0 i1 (Ran (λ es. Takes moves a es a) (Wrote said o0 o1) leads (Failed raised) budget s1)
+  pub asks_raises : (raised : Raised) → answer ≡ Err raised → world_of s1 ≡ world_of s → OnInput tells i0 i1 (Ran (λ es. Takes moves a es a) (Wrote said o0 o1) leads (Failed raised) budget s1)
   asks_raises raised e w =
       asks_as (Failed raised) (λ o. ap (λ x. answered x o) e ∙ ap (λ z. let f : Effects = record { world = z; input = o.input; out = o.out; events = o.events } in ended (Failed raised) budget f) (sym w))
 
@@ -120,10 +120,10 @@ module _ {T : Type 0} (moves : T → Event → T → Type 0) (a : T) (said : Typ
   abbrev to : RawReach → Outside → End
   to x o = follows (by_slots ms) ms (outer_call (by_slots ms) ms (plain_reach x (effects_of s o)) budget (effects_of s o))
 
-  pub gives_at_once : (v : Value) → reach ≡ GivesValue v → Heard tells i0 i0 (Ran (λ es. Takes moves a es a) (Wrote said o0 o0) (to reach) (Gave v) budget s)
+  pub gives_at_once : (v : Value) → reach ≡ GivesValue v → OnInput tells i0 i0 (Ran (λ es. Takes moves a es a) (Wrote said o0 o0) (to reach) (Gave v) budget s)
   gives_at_once v is = ends_at_once moves a said o0 tells i0 (to reach) (Gave v) budget s (λ o. ap (λ x. to x o) is)
 
-  pub raises_at_once : (raised : Raised) → reach ≡ Raises raised → Heard tells i0 i0 (Ran (λ es. Takes moves a es a) (Wrote said o0 o0) (to reach) (Failed raised) budget s)
+  pub raises_at_once : (raised : Raised) → reach ≡ Raises raised → OnInput tells i0 i0 (Ran (λ es. Takes moves a es a) (Wrote said o0 o0) (to reach) (Failed raised) budget s)
   raises_at_once raised is = ends_at_once moves a said o0 tells i0 (to reach) (Failed raised) budget s (λ o. ap (λ x. to x o) is)
 
 -- the call of a global, by what it led to

@@ -16,18 +16,18 @@ use Rattle.py_code.specs.Valid.{AreValid, AreCodes}
 use Rattle.py_code.proofs.Codes.{depths_of, are_valid}
 use Rattle.py_code.proofs.Standing.{AllWait}
 use Rattle.py_instructions.specs.declared.frame.State.{State}
-use Rattle.py_store.specs.declared.store.Store.{Store}
+use Rattle.py_world.specs.declared.store.Store.{Store}
 use Rattle.py_machine.specs.declared.ending.Ending.{Ending}
 use Rattle.py_machine.specs.declared.ending.Ending.TheVariants.{Spent}
-use Rattle.py_machine.specs.Told.{Heard, Hears, Reached, Ran, AtStart, ended}
-use Rattle.py_store.specs.Stores.{world_of}
+use Rattle.py_machine.specs.Told.{OnInput, PartOnInput, Reached, Ran, AtStart, ended}
+use Rattle.py_world.specs.Stores.{world_of}
 use Rattle.py_instructions.specs.View.{Slots, Outside, plain_frame, effects_of, seen}
 use Rattle.py_machine.proofs.Hearing.{heard_as, heard_nothing, hears_nothing}
 use Rattle.py_machine.proofs.Joins.{StandAt, at, wrote_none}
 
 -- nothing happened yet
 pub begun : {T : Type 0} (moves : T → Event → T → Type 0) (a : T) (said : Type 0) (o0 : List ℕ) (tells : Type 0) (i0 : List ℕ) (ms : List Module) (m : State) (s : Store)
-    → Hears tells i0 i0 false false (Reached (λ es. Takes moves a es a) (Wrote said o0 o0) ms (seen m s) (seen m s))
+    → PartOnInput tells i0 i0 false false (Reached (λ es. Takes moves a es a) (Wrote said o0 o0) ms (seen m s) (seen m s))
 begun moves a said o0 tells i0 ms m s =
     hears_nothing tells false i0 (λ e. absurd (cc)) (Reached (λ es. Takes moves a es a) (Wrote said o0 o0) ms (seen m s) (seen m s)) (λ all. record {
       events = [];
@@ -76,7 +76,7 @@ module _ (ms : List Module) (code : CodeId) (vs : List PlainValue) (m : State) (
 -- an event, and then a run
 pub ran_after : {T : Type 0} (moves : T → Event → T → Type 0) (a b c : T) (event : Event) (wrote : List ℕ → Type 0) (tells : Type 0) (i0 i1 : List ℕ) (before other : Outside → End) (how : Ending) (steps : ℕ) (s : Store)
     → moves a event b → ((o : Outside) → before o ≡ other (record o { events = o.events ++ event ∷ [] }))
-    → Heard tells i0 i1 (Ran (λ es. Takes moves b es c) wrote other how steps s) → Heard tells i0 i1 (Ran (λ es. Takes moves a es c) wrote before how steps s)
+    → OnInput tells i0 i1 (Ran (λ es. Takes moves b es c) wrote other how steps s) → OnInput tells i0 i1 (Ran (λ es. Takes moves a es c) wrote before how steps s)
 ran_after moves a b c event wrote tells i0 i1 before other how steps s k h r =
     heard_as tells i0 (λ rest. rest ≡ i1) (Ran (λ es. Takes moves b es c) wrote other how steps s) (Ran (λ es. Takes moves a es c) wrote before how steps s) (λ all rest x. record {
       events = event ∷ x.events;
@@ -91,7 +91,7 @@ ran_after moves a b c event wrote tells i0 i1 before other how steps s k h r =
 
 -- no step is left for the first frame
 pub spent_first : {T : Type 0} (moves : T → Event → T → Type 0) (a : T) (said : Type 0) (o0 : List ℕ) (tells : Type 0) (i0 : List ℕ) (ms : List Module) (code : CodeId) (vs : List PlainValue) (s : Store) (budget : ℕ)
-    → budget ≡ 0 → Heard tells i0 i0 (Ran (λ es. Takes moves a es a) (Wrote said o0 o0) (λ o. follows (by_slots ms) ms (outermost (by_slots ms) ms code vs budget (effects_of s o))) Spent 0 s)
+    → budget ≡ 0 → OnInput tells i0 i0 (Ran (λ es. Takes moves a es a) (Wrote said o0 o0) (λ o. follows (by_slots ms) ms (outermost (by_slots ms) ms code vs budget (effects_of s o))) Spent 0 s)
 spent_first moves a said o0 tells i0 ms code vs s budget e =
     heard_nothing tells i0 (Ran (λ es. Takes moves a es a) (Wrote said o0 o0) (λ o. follows (by_slots ms) ms (outermost (by_slots ms) ms code vs budget (effects_of s o))) Spent 0 s) (λ all. record {
       events = [];

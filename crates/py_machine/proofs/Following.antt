@@ -21,7 +21,7 @@ use Rattle.py_builtins.specs.Texts.{str_text, text_within}
 use Rattle.py_builtins.specs.Writing.{Writing, whole, broken, answer_of}
 use Rattle.py_builtins.proofs.Reading.{IsOpen, read_ended, read_too_many, made_text, text_read}
 use Rattle.py_machine.specs.Ends.{finds_end, is_end}
-use Rattle.py_machine.specs.Told.{Opens, Hears, IsAtEnd}
+use Rattle.py_machine.specs.Told.{Opens, PartOnInput, IsAtEnd}
 use Rattle.py_machine.proofs.Hearing.{of_reads}
 
 -- what a built-in function writes doesn't depend on the input
@@ -216,7 +216,7 @@ module _ (tells : Type 0) (i0 i1 : List ℕ) (which : Builtin) (vs : List PlainV
             }
 
     -- before the end
-    pub call_reads : (was is : Bool) → was ≡ false → is ≡ finds_end which answer → Hears tells i0 i1 was is Answered
+    pub call_reads : (was is : Bool) → was ≡ false → is ≡ finds_end which answer → PartOnInput tells i0 i1 was is Answered
     call_reads was is before same = record {
       hears = of_reads tells i0 i1 Answered r;
       stays = λ e. absurd (cc);
@@ -225,7 +225,7 @@ module _ (tells : Type 0) (i0 i1 : List ℕ) (which : Builtin) (vs : List PlainV
     }
 
   -- at the end
-  pub call_ended : (was : Bool) → was ≡ true → IsAtEnd was tells i0 → (telling : Type 0) → telling → OnReads telling [] [] Answered → Hears tells i0 i0 was was Answered
+  pub call_ended : (was : Bool) → was ≡ true → IsAtEnd was tells i0 → (telling : Type 0) → telling → OnReads telling [] [] Answered → PartOnInput tells i0 i0 was was Answered
   call_ended was ended over telling t r = record {
     hears = record { heard = r.heard; input = r.input; rest = r.rest; fed = r.fed; told = λ x. ((r.told t).0 ∙ sym (over ended x), (r.told t).1 ∙ sym (over ended x)); holds = r.holds };
     stays = λ e. ((r.told t).0, ended);

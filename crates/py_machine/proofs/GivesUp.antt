@@ -12,11 +12,11 @@ use Rattle.py_code.specs.Machine.{told, leave}
 use Rattle.py_code.specs.Run.{Goes, Ticks, Ends}
 use Rattle.py_code.specs.Slots.{by_slots}
 use Rattle.py_code.specs.Units.{Module}
-use Rattle.py_store.specs.declared.store.Store.{Store}
+use Rattle.py_world.specs.declared.store.Store.{Store}
 use Rattle.py_instructions.specs.declared.frame.Frame.{Frame as RawFrame}
 use Rattle.py_instructions.specs.declared.frame.State.{State}
 use Rattle.py_instructions.specs.View.{Slots, Outside, plain_frame, effects_of}
-use Rattle.py_machine.specs.Told.{Grown, Grows, Passed, TakesSome, TakesUntil, GivenUp}
+use Rattle.py_machine.specs.Told.{Grown, Grows, Passed, TakesSome, TakesUntil, MoveGivenUp}
 use Rattle.py_machine.proofs.Grows.{grown_same, left_first, thrown_by}
 use Rattle.py_machine.proofs.Joins.{takes_then}
 use Rattle.py_machine.proofs.Throws.{and_told, told_twice}
@@ -57,7 +57,7 @@ takes_until_all moves refused WriteFault a b es h = h
 takes_until_all moves refused NoMemory a b es h = inl h
 
 -- the same of another move
-pub given_up_as : (took : List Event → Type 0) (s : Store) (before other : Outside → Next Slots) → ((o : Outside) → before o ≡ other o) → GivenUp took s other → GivenUp took s before
+pub given_up_as : (took : List Event → Type 0) (s : Store) (before other : Outside → Next Slots) → ((o : Outside) → before o ≡ other o) → MoveGivenUp took s other → MoveGivenUp took s before
 given_up_as took s before other h p = record {
   events = p.events;
   has_told = p.has_told;
@@ -72,7 +72,7 @@ elsewhere s s1 o (Ends r) h = record { holds = h.holds }
 
 -- these events, and then a move that was given up
 pub given_up_after : {T : Type 0} (moves refused : T → Event → T → Type 0) (a b c : T) (es : List Event) (s s1 : Store) (before other : Outside → Next Slots)
-    → Takes moves a es b → ((o : Outside) → before o ≡ other (and_told es o)) → GivenUp (λ fs. TakesSome moves refused b fs c) s1 other → GivenUp (λ fs. TakesSome moves refused a fs c) s before
+    → Takes moves a es b → ((o : Outside) → before o ≡ other (and_told es o)) → MoveGivenUp (λ fs. TakesSome moves refused b fs c) s1 other → MoveGivenUp (λ fs. TakesSome moves refused a fs c) s before
 given_up_after moves refused a b c es s s1 before other k h p = record {
   events = es ++ p.events;
   has_told = takes_some_then moves refused a b c es p.events k p.has_told;
@@ -83,19 +83,19 @@ given_up_after moves refused a b c es s s1 before other k h p = record {
 
 -- nothing more was told than a move begins with
 pub gives_up : {T : Type 0} (moves refused : T → Event → T → Type 0) (a b : T) (es : List Event) (s : Store) (before : Outside → Next Slots)
-    → TakesSome moves refused a es b → ((o : Outside) → Grows (effects_of s (and_told es o)) (before o)) → GivenUp (λ fs. TakesSome moves refused a fs b) s before
+    → TakesSome moves refused a es b → ((o : Outside) → Grows (effects_of s (and_told es o)) (before o)) → MoveGivenUp (λ fs. TakesSome moves refused a fs b) s before
 gives_up moves refused a b es s before k h = record { events = es; has_told = k; is = h }
 
 untold : (s : Store) (o : Outside) (n : Next Slots) → Grows (effects_of s o) n → Grows (effects_of s (and_told [] o)) n
 untold s o n h = subst (λ z. Grows (effects_of s (record o { events = z })) n) (sym (append-nil o.events)) h
 
 pub gives_up_first : {T : Type 0} (moves refused : T → Event → T → Type 0) (a : T) (s : Store) (before : Outside → Next Slots)
-    → ((o : Outside) → Grows (effects_of s o) (before o)) → GivenUp (λ fs. TakesSome moves refused a fs a) s before
+    → ((o : Outside) → Grows (effects_of s o) (before o)) → MoveGivenUp (λ fs. TakesSome moves refused a fs a) s before
 gives_up_first moves refused a s before h = gives_up moves refused a a [] s before (inl refl) (λ o. untold s o (before o) (h o))
 
 -- the first event of a move was refused
 pub gives_up_refused : {T : Type 0} (moves refused : T → Event → T → Type 0) (a b : T) (event : Event) (s : Store) (before : Outside → Next Slots)
-    → refused a event b → ((o : Outside) → Grows (effects_of s (and_told (event ∷ []) o)) (before o)) → GivenUp (λ fs. TakesSome moves refused a fs b) s before
+    → refused a event b → ((o : Outside) → Grows (effects_of s (and_told (event ∷ []) o)) (before o)) → MoveGivenUp (λ fs. TakesSome moves refused a fs b) s before
 gives_up_refused moves refused a b event s before k h = gives_up moves refused a b (event ∷ []) s before (refuses_one moves refused a b event k) h
 
 module _ {T : Type 0} (moves refused : T → Event → T → Type 0) (ms : List Module) (raised : Raised) (a b : T) (before : Outside → Next Slots) (m : State) (s0 s : Store)
@@ -104,7 +104,7 @@ module _ {T : Type 0} (moves refused : T → Event → T → Type 0) (ms : List 
   leaving o = leave (by_slots ms) ms (plain_raised raised) m.top.code (map plain_frame m.callers) m.steps (effects_of s o)
 
   -- before the frame is left
-  pub stays : (c : T) → refused b Returned c → GivenUp (λ es. TakesSome moves refused a es c) s0 before
+  pub stays : (c : T) → refused b Returned c → MoveGivenUp (λ es. TakesSome moves refused a es c) s0 before
   stays c k =
       given_up_after moves refused a b c p.events s0 s before leaving p.has_told p.is
       (gives_up_refused moves refused b c Returned s leaving k (λ o. left_first (by_slots ms) ms (effects_of s (and_told (Returned ∷ []) o)) (plain_raised raised) m.top.code (map plain_frame m.callers) m.steps (effects_of s o) (grown_same (effects_of s (and_told (Returned ∷ []) o)))))
@@ -124,13 +124,13 @@ module _ {T : Type 0} (moves refused : T → Event → T → Type 0) (ms : List 
         (subst (λ z. Grown (effects_of s (record o { events = z })) (told (Throw raised.kind) (effects_of s (and_told (Returned ∷ []) o)))) (append_assoc o.events (Returned ∷ []) (Throw raised.kind ∷ [])) (grown_same (told (Throw raised.kind) (effects_of s (and_told (Returned ∷ []) o))))))
 
     -- after the frame
-    pub stays_left : (c d : T) → moves b Returned c → refused c (Throw raised.kind) d → GivenUp (λ es. TakesSome moves refused a es d) s0 before
+    pub stays_left : (c d : T) → moves b Returned c → refused c (Throw raised.kind) d → MoveGivenUp (λ es. TakesSome moves refused a es d) s0 before
     stays_left c d h k =
         given_up_after moves refused a b d p.events s0 s before leaving p.has_told p.is
         (gives_up moves refused b d both s leaving (refuses_after moves refused b c d (Returned ∷ []) (Throw raised.kind) (c, h, refl) k) throws)
 
     -- where the exception was thrown once more
-    pub stays_thrown : (c d : T) → moves b Returned c → moves c (Throw raised.kind) d → GivenUp (λ es. TakesSome moves refused a es d) s0 before
+    pub stays_thrown : (c d : T) → moves b Returned c → moves c (Throw raised.kind) d → MoveGivenUp (λ es. TakesSome moves refused a es d) s0 before
     stays_thrown c d h g =
         given_up_after moves refused a b d p.events s0 s before leaving p.has_told p.is
         (gives_up moves refused b d both s leaving (inl (c, h, (d, g, refl))) throws)

@@ -3,7 +3,7 @@ use Rattle.std.proofs.Common.{◌≡◌, ℕ, List, [], ◌∷◌, ◌++◌, Boo
 use Rattle.cov_outside.specs.Prefixes.{LosesPrefix}
 use Rattle.py_builtins.specs.Inputs.{Fed, OnReads}
 use Rattle.py_builtins.proofs.Feeding.{after_bytes, fed_bytes, bytes_fed, fed_then, fed_apart}
-use Rattle.py_machine.specs.Told.{OnHeard, Heard, Opens, Hears, IsAtEnd, HeardSome, HearsSome}
+use Rattle.py_machine.specs.Told.{OnInputs, OnInput, Opens, PartOnInput, IsAtEnd, OnInputUntil, PartOnInputUntil}
 
 -- an input at its end gives no byte
 fed_none : (heard : List (Option ℕ)) (rest : List ℕ) → Fed heard [] rest → rest ≡ []
@@ -12,7 +12,7 @@ fed_none (Some b ∷ heard) rest f = let e : b ∷ rest ≡ [] = fed_none heard 
 fed_none (None ∷ heard) rest f = f.0
 
 -- what follows of every such input
-pub heard_as : (tells : Type 0) (before : List ℕ) (left : List ℕ → Type 0) (P Q : List ℕ → List ℕ → Type 0) → ((all rest : List ℕ) → P all rest → Q all rest) → OnHeard tells before left P → OnHeard tells before left Q
+pub heard_as : (tells : Type 0) (before : List ℕ) (left : List ℕ → Type 0) (P Q : List ℕ → List ℕ → Type 0) → ((all rest : List ℕ) → P all rest → Q all rest) → OnInputs tells before left P → OnInputs tells before left Q
 heard_as tells before left P Q f h = record {
   heard = h.heard;
   input = h.input;
@@ -22,7 +22,7 @@ heard_as tells before left P Q f h = record {
   holds = λ all rest fed. f all rest (h.holds all rest fed);
 }
 
-pub hears_as : (tells : Type 0) (i0 i1 : List ℕ) (was is : Bool) (P Q : List ℕ → List ℕ → Type 0) → ((all rest : List ℕ) → P all rest → Q all rest) → Hears tells i0 i1 was is P → Hears tells i0 i1 was is Q
+pub hears_as : (tells : Type 0) (i0 i1 : List ℕ) (was is : Bool) (P Q : List ℕ → List ℕ → Type 0) → ((all rest : List ℕ) → P all rest → Q all rest) → PartOnInput tells i0 i1 was is P → PartOnInput tells i0 i1 was is Q
 unfolding heard_as
 hears_as tells i0 i1 was is P Q f h = record {
   hears = heard_as tells i0 (λ rest. rest ≡ i1) P Q f h.hears;
@@ -33,7 +33,7 @@ hears_as tells i0 i1 was is P Q f h = record {
       record { bytes = o.bytes; holds = λ more. f (o.bytes ++ more) more (o.holds more); shape = o.shape };
 }
 
-pub hears_some_as : (tells : Type 0) (i0 i1 : List ℕ) (was : Bool) (P Q : List ℕ → Type 0) → ((all : List ℕ) → P all → Q all) → HearsSome tells i0 i1 was P → HearsSome tells i0 i1 was Q
+pub hears_some_as : (tells : Type 0) (i0 i1 : List ℕ) (was : Bool) (P Q : List ℕ → Type 0) → ((all : List ℕ) → P all → Q all) → PartOnInputUntil tells i0 i1 was P → PartOnInputUntil tells i0 i1 was Q
 unfolding heard_as
 hears_some_as tells i0 i1 was P Q f h = record {
   hears = heard_as tells i0 (λ rest. LosesPrefix rest i1) (λ all rest. P all) (λ all rest. Q all) (λ all rest p. f all p) h.hears;
@@ -41,7 +41,7 @@ hears_some_as tells i0 i1 was P Q f h = record {
 }
 
 -- what a built-in function read
-abbrev pub of_reads : (tells : Type 0) (i0 i1 : List ℕ) (P : List ℕ → List ℕ → Type 0) → OnReads tells i0 i1 P → Heard tells i0 i1 P
+abbrev pub of_reads : (tells : Type 0) (i0 i1 : List ℕ) (P : List ℕ → List ℕ → Type 0) → OnReads tells i0 i1 P → OnInput tells i0 i1 P
 of_reads tells i0 i1 P r = record { heard = r.heard; input = r.input; rest = r.rest; fed = r.fed; told = r.told; holds = r.holds }
 
 -- nothing was lost
@@ -49,7 +49,7 @@ pub lost_none : (xs : List ℕ) → LosesPrefix xs xs
 lost_none xs = record { front = []; is = refl }
 
 -- all answers that were read were whole
-pub heard_some : (tells : Type 0) (i0 i1 : List ℕ) (P : List ℕ → List ℕ → Type 0) (Q : List ℕ → Type 0) → ((all rest : List ℕ) → P all rest → Q all) → Heard tells i0 i1 P → HeardSome tells i0 i1 Q
+pub heard_some : (tells : Type 0) (i0 i1 : List ℕ) (P : List ℕ → List ℕ → Type 0) (Q : List ℕ → Type 0) → ((all rest : List ℕ) → P all rest → Q all) → OnInput tells i0 i1 P → OnInputUntil tells i0 i1 Q
 heard_some tells i0 i1 P Q f h = record {
   heard = h.heard;
   input = h.input;
@@ -59,7 +59,7 @@ heard_some tells i0 i1 P Q f h = record {
   holds = λ all rest fed. f all rest (h.holds all rest fed);
 }
 
-pub hears_some : (tells : Type 0) (i0 i1 : List ℕ) (was is : Bool) (P : List ℕ → List ℕ → Type 0) (Q : List ℕ → Type 0) → ((all rest : List ℕ) → P all rest → Q all) → Hears tells i0 i1 was is P → HearsSome tells i0 i1 was Q
+pub hears_some : (tells : Type 0) (i0 i1 : List ℕ) (was is : Bool) (P : List ℕ → List ℕ → Type 0) (Q : List ℕ → Type 0) → ((all rest : List ℕ) → P all rest → Q all) → PartOnInput tells i0 i1 was is P → PartOnInputUntil tells i0 i1 was Q
 unfolding heard_some
 hears_some tells i0 i1 was is P Q f h = record { hears = heard_some tells i0 i1 P Q f h.hears; stays = λ e. (h.stays e).0 }
 
@@ -68,7 +68,7 @@ unread : (tells : Type 0) (was : Bool) (i0 : List ℕ) → IsAtEnd was tells i0 
 unread tells true i0 h = ([], λ t. sym (h refl t), λ e. refl)
 unread tells false i0 h = (i0, λ t. refl, λ e. absurd (cc))
 
-pub hears_nothing : (tells : Type 0) (was : Bool) (i0 : List ℕ) → IsAtEnd was tells i0 → (P : List ℕ → List ℕ → Type 0) → ((all : List ℕ) → P all all) → Hears tells i0 i0 was was P
+pub hears_nothing : (tells : Type 0) (was : Bool) (i0 : List ℕ) → IsAtEnd was tells i0 → (P : List ℕ → List ℕ → Type 0) → ((all : List ℕ) → P all all) → PartOnInput tells i0 i0 was was P
 hears_nothing tells was i0 over P h =
     let u = unread tells was i0 over in
     record {
@@ -78,11 +78,11 @@ hears_nothing tells was i0 over P h =
       opens = λ e. record { bytes = []; holds = h; shape = inl refl };
     }
 
-pub heard_nothing : (tells : Type 0) (i0 : List ℕ) (P : List ℕ → List ℕ → Type 0) → ((all : List ℕ) → P all all) → Heard tells i0 i0 P
+pub heard_nothing : (tells : Type 0) (i0 : List ℕ) (P : List ℕ → List ℕ → Type 0) → ((all : List ℕ) → P all all) → OnInput tells i0 i0 P
 heard_nothing tells i0 P h = record { heard = []; input = i0; rest = i0; fed = refl; told = λ t. (refl, refl); holds = λ all rest f. subst (λ r. P all r) f (h all) }
 
 -- a source of which a reading was given up
-pub hears_lost : (tells : Type 0) (was : Bool) (i0 i1 : List ℕ) → IsAtEnd was tells i0 → (tells → LosesPrefix i0 i1) → (P : List ℕ → Type 0) → ((all : List ℕ) → P all) → HearsSome tells i0 i1 was P
+pub hears_lost : (tells : Type 0) (was : Bool) (i0 i1 : List ℕ) → IsAtEnd was tells i0 → (tells → LosesPrefix i0 i1) → (P : List ℕ → Type 0) → ((all : List ℕ) → P all) → PartOnInputUntil tells i0 i1 was P
 hears_lost tells was i0 i1 over lost P h =
     let u = unread tells was i0 over in
     record {
@@ -90,18 +90,18 @@ hears_lost tells was i0 i1 over lost P h =
       stays = u.2;
     }
 
-pub heard_lost : (tells : Type 0) (i0 i1 : List ℕ) → (tells → LosesPrefix i0 i1) → (P : List ℕ → Type 0) → ((all : List ℕ) → P all) → HeardSome tells i0 i1 P
+pub heard_lost : (tells : Type 0) (i0 i1 : List ℕ) → (tells → LosesPrefix i0 i1) → (P : List ℕ → Type 0) → ((all : List ℕ) → P all) → OnInputUntil tells i0 i1 P
 heard_lost tells i0 i1 lost P h = record { heard = []; input = i0; rest = i0; fed = refl; told = λ t. (refl, lost t); holds = λ all rest f. h all }
 
 -- the source is at its end
-pub over_then : (tells : Type 0) (i0 i1 : List ℕ) (was is : Bool) (P : List ℕ → List ℕ → Type 0) → Hears tells i0 i1 was is P → IsAtEnd is tells i1
+pub over_then : (tells : Type 0) (i0 i1 : List ℕ) (was is : Bool) (P : List ℕ → List ℕ → Type 0) → PartOnInput tells i0 i1 was is P → IsAtEnd is tells i1
 over_then tells i0 i1 was is P h e t = sym (h.hears.told t).1 ∙ h.closes e
 
 -- two parts, one after the other
 module _ (tells : Type 0) (i0 i1 : List ℕ) (left : List ℕ → Type 0) (P Q R : List ℕ → List ℕ → Type 0) (both : (all mid rest : List ℕ) → P all mid → Q mid rest → R all rest)
-    (x : Heard tells i0 i1 P) (y : OnHeard tells i1 left Q) where
+    (x : OnInput tells i0 i1 P) (y : OnInputs tells i1 left Q) where
   -- the end was met in the first
-  at_end : x.rest ≡ [] → y.input ≡ [] → OnHeard tells i0 left R
+  at_end : x.rest ≡ [] → y.input ≡ [] → OnInputs tells i0 left R
   at_end e f = record {
     heard = y.heard ++ x.heard;
     input = x.input;
@@ -114,7 +114,7 @@ module _ (tells : Type 0) (i0 i1 : List ℕ) (left : List ℕ → Type 0) (P Q R
   }
 
   -- bytes followed the first
-  followed : (o : Opens P x.input x.rest) → (tells → o.bytes ++ y.input ≡ i0) → OnHeard tells i0 left R
+  followed : (o : Opens P x.input x.rest) → (tells → o.bytes ++ y.input ≡ i0) → OnInputs tells i0 left R
   followed o told = record {
     heard = y.heard ++ after_bytes [] o.bytes;
     input = o.bytes ++ y.input;
@@ -127,7 +127,7 @@ module _ (tells : Type 0) (i0 i1 : List ℕ) (left : List ℕ → Type 0) (P Q R
   }
 
   abbrev Follows : Opens P x.input x.rest → Type 0
-  Follows o = (z : OnHeard tells i0 left R) × (z.rest ≡ y.rest) × ((z.input ≡ o.bytes ++ y.input) ⊎ (y.rest ≡ []))
+  Follows o = (z : OnInputs tells i0 left R) × (z.rest ≡ y.rest) × ((z.input ≡ o.bytes ++ y.input) ⊎ (y.rest ≡ []))
 
   by_input : (o : Opens P x.input x.rest) → x.rest ≡ [] → (input : List ℕ) → y.input ≡ input → Follows o
   unfolding at_end followed
@@ -146,7 +146,7 @@ shapes xs ys input mid rest left e (inl f) (inr g) = inr (e ∙ g)
 shapes xs ys input mid rest left e (inr f) g = inr (e ∙ f)
 
 pub hears_then : (tells : Type 0) (i0 i1 i2 : List ℕ) (w0 w1 w2 : Bool) (P Q R : List ℕ → List ℕ → Type 0) → ((all mid rest : List ℕ) → P all mid → Q mid rest → R all rest)
-    → Hears tells i0 i1 w0 w1 P → Hears tells i1 i2 w1 w2 Q → Hears tells i0 i2 w0 w2 R
+    → PartOnInput tells i0 i1 w0 w1 P → PartOnInput tells i1 i2 w1 w2 Q → PartOnInput tells i0 i2 w0 w2 R
 unfolding at_end
 hears_then tells i0 i1 i2 w0 true w2 P Q R both x y = record {
   hears = at_end tells i0 i1 (λ rest. rest ≡ i2) P Q R both x.hears y.hears (x.closes refl) (y.stays refl).0;
@@ -171,7 +171,7 @@ hears_then tells i0 i1 i2 w0 false w2 P Q R both x y =
     }
 
 pub hears_some_then : (tells : Type 0) (i0 i1 i2 : List ℕ) (w0 w1 : Bool) (P : List ℕ → List ℕ → Type 0) (Q R : List ℕ → Type 0) → ((all mid : List ℕ) → P all mid → Q mid → R all)
-    → Hears tells i0 i1 w0 w1 P → HearsSome tells i1 i2 w1 Q → HeardSome tells i0 i2 R
+    → PartOnInput tells i0 i1 w0 w1 P → PartOnInputUntil tells i1 i2 w1 Q → OnInputUntil tells i0 i2 R
 hears_some_then tells i0 i1 i2 w0 true P Q R both x y =
     at_end tells i0 i1 (λ rest. LosesPrefix rest i2) P (λ all rest. Q all) (λ all rest. R all) (λ all mid rest. both all mid) x.hears y.hears (x.closes refl) (y.stays refl)
 hears_some_then tells i0 i1 i2 w0 false P Q R both x y =

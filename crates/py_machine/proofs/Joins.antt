@@ -15,8 +15,8 @@ use Rattle.py_code.proofs.Standing.{Stands}
 use Rattle.py_code.proofs.Steps.{ends}
 use Rattle.py_machine.specs.declared.ending.Ending.{Ending}
 use Rattle.py_instructions.specs.declared.frame.State.{State}
-use Rattle.py_store.specs.declared.store.Store.{Store}
-use Rattle.py_machine.specs.Told.{Heard, Hears, Went, Part, Reached, Ran, ended}
+use Rattle.py_world.specs.declared.store.Store.{Store}
+use Rattle.py_machine.specs.Told.{OnInput, PartOnInput, Went, Part, Reached, Ran, ended}
 use Rattle.py_instructions.specs.View.{Slots, Outside, seen, effects_of}
 use Rattle.py_machine.proofs.Hearing.{hears_then}
 
@@ -49,13 +49,13 @@ module _ (ms : List Module) (depths : CodeId → List ℕ) (valid : AreValid ms 
     Came = Reached (λ es. Takes moves a es b) (Wrote said o0 o1) ms (seen m s) (seen m1 s1)
 
     abbrev Was : Type 0
-    Was = Hears tells i0 i1 w0 w1 Came
+    Was = PartOnInput tells i0 i1 w0 w1 Came
 
     abbrev Moved : Option Ending → List ℕ → List ℕ → Type 0
     Moved how = Part (λ es. Takes moves b es c) (Wrote said o1 o2) (λ o. move (by_slots ms) ms (seen m1 s1 o)) (seen m2 s2) how
 
     abbrev Steps : Option Ending → Type 0
-    Steps how = Hears tells i1 i2 w1 w2 (Moved how)
+    Steps how = PartOnInput tells i1 i2 w1 w2 (Moved how)
 
     abbrev Comes : List ℕ → List ℕ → Type 0
     Comes = Reached (λ es. Takes moves a es c) (Wrote said o0 o2) ms (seen m s) (seen m2 s2)
@@ -76,7 +76,7 @@ module _ (ms : List Module) (depths : CodeId → List ℕ) (valid : AreValid ms 
     }
 
     -- an instruction more of a run
-    further : Was → Steps None → Hears tells i0 i2 w0 w2 Comes
+    further : Was → Steps None → PartOnInput tells i0 i2 w0 w2 Comes
     further r p = hears_then tells i0 i1 i2 w0 w1 w2 Came (Moved None) Comes further_one r p
 
     last_one : (how : Ending) (all mid rest : List ℕ) → Came all mid → Moved (Some how) mid rest → Ended how all rest
@@ -92,7 +92,7 @@ module _ (ms : List Module) (depths : CodeId → List ℕ) (valid : AreValid ms 
     }
 
     -- the last one
-    last : (how : Ending) → Was → Steps (Some how) → Heard tells i0 i2 (Ended how)
+    last : (how : Ending) → Was → Steps (Some how) → OnInput tells i0 i2 (Ended how)
     last how r p = (hears_then tells i0 i1 i2 w0 w1 w2 Came (Moved (Some how)) (Ended how) (last_one how) r p).hears
 
     abbrev none : List ℕ → Outside
@@ -111,10 +111,10 @@ module _ (ms : List Module) (depths : CodeId → List ℕ) (valid : AreValid ms 
     stands : Steps None → StandAt m2 s2
     stands p = λ o. let l = ahead p.hears.input p.hears.rest (done None p) in record { top = l.stands.top; callers = l.stands.callers }
 
-    pub further_at : (how : Option Ending) → how ≡ None → Was → Steps how → Hears tells i0 i2 w0 w2 Comes
+    pub further_at : (how : Option Ending) → how ≡ None → Was → Steps how → PartOnInput tells i0 i2 w0 w2 Comes
     further_at how e r p = further r (subst Steps e p)
 
-    pub last_at : (o : Option Ending) (how : Ending) → o ≡ Some how → Was → Steps o → Heard tells i0 i2 (Ended how)
+    pub last_at : (o : Option Ending) (how : Ending) → o ≡ Some how → Was → Steps o → OnInput tells i0 i2 (Ended how)
     last_at o how e r p = last how r (subst Steps e p)
 
     pub nearer_at : (how : Option Ending) → how ≡ None → Steps how → distance (by_slots ms) ms (seen m2 s2 (none [])) < distance (by_slots ms) ms (seen m1 s1 (none []))

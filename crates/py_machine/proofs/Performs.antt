@@ -25,10 +25,10 @@ use Rattle.py_machine.specs.declared.ending.Ending.{Ending}
 use Rattle.py_instructions.specs.declared.frame.State.{State}
 use Rattle.py_instructions.specs.declared.operand.Operand.{Operand as RawOperand}
 use Rattle.py_instructions.specs.declared.operand.Operand.TheVariants.{Value as OfValue}
-use Rattle.py_store.specs.declared.store.Store.{Store}
+use Rattle.py_world.specs.declared.store.Store.{Store}
 use Rattle.py_instructions.specs.declared.turn.Turn.TheVariants.{Asks}
-use Rattle.py_machine.specs.Told.{Hears, IsAtEnd, Went, Tells, Part, Step}
-use Rattle.py_store.specs.Stores.{world_of}
+use Rattle.py_machine.specs.Told.{PartOnInput, IsAtEnd, Went, Tells, Part, Step}
+use Rattle.py_world.specs.Stores.{world_of}
 use Rattle.py_instructions.specs.View.{Slots, Outside, plain_operands, plain_frame, effects_of, seen, turned}
 use Rattle.py_machine.proofs.Hearing.{hears_as, hears_nothing}
 use Rattle.py_machine.proofs.Joins.{wrote_none}
@@ -70,7 +70,7 @@ module _ {T : Type 0} (moves : T → Event → T → Type 0) (said : Type 0) (te
   abbrev effects : World → Outside → Effects
   effects v o = record { world = v; input = o.input; out = o.out; events = o.events }
 
-  module _ (answer : Answer) (r : Hears tells i0 i1 was is (Given said o0 o1 which values s answer)) (a b : T) (now : Outside → Configuration Slots) (how : Option Ending) (events : List Event) (took : Takes moves a events b)
+  module _ (answer : Answer) (r : PartOnInput tells i0 i1 was is (Given said o0 o1 which values s answer)) (a b : T) (now : Outside → Configuration Slots) (how : Option Ending) (events : List Event) (took : Takes moves a events b)
       (goes : (o : Outside) → Went how (calls (by_slots ms) ms (by_answer answer (effects (world_of s) o)) (plain_operands m.top.operands) (seen m s o)) (now (record o { events = o.events ++ events }))) where
     part : (all rest : List ℕ) → Given said o0 o1 which values s answer all rest → Part (λ es. Takes moves a es b) (Wrote said o0 o1) asking now how all rest
     part all rest gives =
@@ -138,9 +138,9 @@ exception_thrown ms m s s2 r took now how w p o =
 
 -- a built-in function that the top frame asks for
 module _ {T : Type 0} (moves : T → Event → T → Type 0) (said : Type 0) (tells : Type 0) (o0 o1 i0 i1 : List ℕ) (was is : Bool) (ms : List Module) (which : Builtin) (values : Vec Value Global) (m : State) (s s2 : Store)
-    (answer : Result Value Raised) (h : PlainHeap) (r : Hears tells i0 i1 was is (Given said o0 o1 which values s (plain_outcome answer h))) where
+    (answer : Result Value Raised) (h : PlainHeap) (r : PartOnInput tells i0 i1 was is (Given said o0 o1 which values s (plain_outcome answer h))) where
   abbrev given : Result Value Raised → Type 0
-  given x = Hears tells i0 i1 was is (Given said o0 o1 which values s (plain_outcome x h))
+  given x = PartOnInput tells i0 i1 was is (Given said o0 o1 which values s (plain_outcome x h))
 
   pub asked_gives : (a : T) (v : Value) → answer ≡ Ok v → world_of s2 ≡ with_heap h (world_of s) → (place : ℕ) → place ≡ suc m.top.place → (pushed : List RawOperand) → pushed ≡ OfValue v ∷ m.top.operands
       → Step tells i0 i1 was is (λ es. Takes moves a es a) (Wrote said o0 o1) (λ o. turned ms (Asks which values) (seen m s o)) (seen (record m { top = record m.top { place = place; operands = pushed } }) s2) None
@@ -165,8 +165,8 @@ pub reads_of : (tells : Type 0) (i0 i1 : List ℕ) (which : Builtin) (h : PlainH
 reads_of tells i0 i1 which h answer wrote xs ys e r = subst (λ zs. OnReads tells i0 i1 (λ all rest. Gives (builtin_of which (plains zs) h all) answer wrote rest)) e r
 
 pub hears_of : (tells : Type 0) (i0 i1 : List ℕ) (was is : Bool) (which : Builtin) (h : PlainHeap) (answer : Answer) (wrote : List ℕ → Type 0) (xs ys : List Value) → xs ≡ ys
-    → Hears tells i0 i1 was is (λ all rest. Gives (builtin_of which (plains xs) h all) answer wrote rest) → Hears tells i0 i1 was is (λ all rest. Gives (builtin_of which (plains ys) h all) answer wrote rest)
-hears_of tells i0 i1 was is which h answer wrote xs ys e r = subst (λ zs. Hears tells i0 i1 was is (λ all rest. Gives (builtin_of which (plains zs) h all) answer wrote rest)) e r
+    → PartOnInput tells i0 i1 was is (λ all rest. Gives (builtin_of which (plains xs) h all) answer wrote rest) → PartOnInput tells i0 i1 was is (λ all rest. Gives (builtin_of which (plains ys) h all) answer wrote rest)
+hears_of tells i0 i1 was is which h answer wrote xs ys e r = subst (λ zs. PartOnInput tells i0 i1 was is (λ all rest. Gives (builtin_of which (plains zs) h all) answer wrote rest)) e r
 
 pub gains_of : (said : Type 0) (o0 o1 : List ℕ) (which : Builtin) (h : PlainHeap) (i0 : List ℕ) (xs ys : List Value) → xs ≡ ys
     → (said → GainsPrefix o0 o1 (builtin_of which (plains xs) h i0).written) → said → GainsPrefix o0 o1 (builtin_of which (plains ys) h i0).written

@@ -19,12 +19,12 @@ use Rattle.py_code.specs.Machine.{in_world, by_answer, calls, throw}
 use Rattle.py_code.specs.Run.{Goes, Ticks, Ends}
 use Rattle.py_code.specs.Slots.{by_slots}
 use Rattle.py_code.specs.Units.{Module}
-use Rattle.py_store.specs.declared.store.Store.{Store}
-use Rattle.py_store.specs.Stores.{world_of}
+use Rattle.py_world.specs.declared.store.Store.{Store}
+use Rattle.py_world.specs.Stores.{world_of}
 use Rattle.py_instructions.specs.declared.frame.State.{State}
 use Rattle.py_instructions.specs.declared.turn.Turn.TheVariants.{Asks}
 use Rattle.py_instructions.specs.View.{Slots, Outside, plain_operands, effects_of, seen, turned}
-use Rattle.py_machine.specs.Told.{IsAtEnd, Hears, Grown, Grows, TakesSome, TakesUntil, GivenUp, Broken, HearsSome}
+use Rattle.py_machine.specs.Told.{IsAtEnd, PartOnInput, Grown, Grows, TakesSome, TakesUntil, MoveGivenUp, PartGivenUp, PartOnInputUntil}
 use Rattle.py_builtins.specs.World.{with_heap}
 use Rattle.py_machine.proofs.Grows.{grown_same, prefix_then, called_at_once}
 use Rattle.py_machine.proofs.GivesUp.{takes_until_all, elsewhere}
@@ -34,7 +34,7 @@ use Rattle.py_machine.proofs.Performs.{Given, seen_in}
 use Rattle.py_machine.proofs.Throws.{and_told}
 
 module _ (took : List Event → Type 0) (said : Type 0) (o0 : List ℕ) (s : Store) (before : Outside → Next Slots) where
-  part_of : GivenUp took s before → (all : List ℕ) → Broken took said o0 o0 s before all
+  part_of : MoveGivenUp took s before → (all : List ℕ) → PartGivenUp took said o0 o0 s before all
   part_of p all = record {
     events = p.events;
     has_told = p.has_told;
@@ -54,14 +54,14 @@ module _ (took : List Event → Type 0) (said : Type 0) (o0 : List ℕ) (s : Sto
           less_events (Ends r) h = record { holds = (front r.effects.events h.holds.0, h.holds.1) }
 
   -- a part that neither wrote nor read
-  pub only_given_up : (tells : Type 0) (was : Bool) (i0 : List ℕ) → IsAtEnd was tells i0 → GivenUp took s before → HearsSome tells i0 i0 was (Broken took said o0 o0 s before)
-  only_given_up tells was i0 over p = hears_lost tells was i0 i0 over (λ t. lost_none i0) (Broken took said o0 o0 s before) (part_of p)
+  pub only_given_up : (tells : Type 0) (was : Bool) (i0 : List ℕ) → IsAtEnd was tells i0 → MoveGivenUp took s before → PartOnInputUntil tells i0 i0 was (PartGivenUp took said o0 o0 s before)
+  only_given_up tells was i0 over p = hears_lost tells was i0 i0 over (λ t. lost_none i0) (PartGivenUp took said o0 o0 s before) (part_of p)
 
 -- another move, that is the same, on another store
 pub broken_as : (tells : Type 0) (i0 i1 : List ℕ) (was : Bool) (took : List Event → Type 0) (said : Type 0) (o0 o1 : List ℕ) (s s1 : Store) (before other : Outside → Next Slots)
-    → ((o : Outside) → before o ≡ other o) → HearsSome tells i0 i1 was (Broken took said o0 o1 s1 other) → HearsSome tells i0 i1 was (Broken took said o0 o1 s before)
+    → ((o : Outside) → before o ≡ other o) → PartOnInputUntil tells i0 i1 was (PartGivenUp took said o0 o1 s1 other) → PartOnInputUntil tells i0 i1 was (PartGivenUp took said o0 o1 s before)
 broken_as tells i0 i1 was took said o0 o1 s s1 before other h p =
-    hears_some_as tells i0 i1 was (Broken took said o0 o1 s1 other) (Broken took said o0 o1 s before) (λ all x. record {
+    hears_some_as tells i0 i1 was (PartGivenUp took said o0 o1 s1 other) (PartGivenUp took said o0 o1 s before) (λ all x. record {
       events = x.events;
       has_told = x.has_told;
       is = λ w es. same all w es _ (x.is w es);
@@ -96,9 +96,9 @@ module _ {T : Type 0} (moves refused : T → Event → T → Type 0) (fault : Ru
       reach (Err raised) last c g = called_at_once (by_slots ms) ms (effects_of s (record { input = all; out = w ++ out; events = es })) (Err raised) last c.top.operands c g
 
   -- the function itself was given up
-  pub asks_some : IsAtEnd was tells i0 → (tells → LosesPrefix i0 i1) → (said → GainsPrefix o0 o1 (done_with i0).written) → (a : T) → HearsSome tells i0 i1 was (Broken (λ es. TakesUntil moves refused fault a es a) said o0 o1 s asking)
+  pub asks_some : IsAtEnd was tells i0 → (tells → LosesPrefix i0 i1) → (said → GainsPrefix o0 o1 (done_with i0).written) → (a : T) → PartOnInputUntil tells i0 i1 was (PartGivenUp (λ es. TakesUntil moves refused fault a es a) said o0 o1 s asking)
   asks_some over lost gained a =
-      hears_lost tells was i0 i1 over lost (Broken (λ es. TakesUntil moves refused fault a es a) said o0 o1 s asking) (λ all. record {
+      hears_lost tells was i0 i1 over lost (PartGivenUp (λ es. TakesUntil moves refused fault a es a) said o0 o1 s asking) (λ all. record {
         events = [];
         has_told = takes_until_all moves refused fault a a [] refl;
         is = λ w es. subst (λ z. Grows (effects_of s z) (asking (record { input = all; out = w; events = es }))) (both all w es) (asks all w [] es (record { rest = (done_with all).written; is = refl }));
@@ -111,7 +111,7 @@ module _ {T : Type 0} (moves refused : T → Event → T → Type 0) (fault : Ru
       both all w es =
           ap (λ z. let x : Outside = record { input = all; out = z; events = es } in x) (append-nil w) ∙ ap (λ z. let x : Outside = record { input = all; out = w; events = z } in x) (sym (append-nil es))
 
-  module _ (answer : Answer) (is : Bool) (r : Hears tells i0 i1 was is (Given said o0 o1 which values s answer)) (a b : T) (events : List Event) (took : TakesUntil moves refused fault a events b)
+  module _ (answer : Answer) (is : Bool) (r : PartOnInput tells i0 i1 was is (Given said o0 o1 which values s answer)) (a b : T) (events : List Event) (took : TakesUntil moves refused fault a events b)
       (goes : (o : Outside) → Grows (effects_of s (record o { events = o.events ++ events })) (calls (by_slots ms) ms (by_answer answer (effects_of s o)) (plain_operands m.top.operands) (seen m s o))) where
     abbrev after_call : Answer → Outside → Outside → Next Slots
     after_call x now then_seen = calls (by_slots ms) ms (by_answer x (effects_of s now)) (plain_operands m.top.operands) (seen m s then_seen)
@@ -129,8 +129,8 @@ module _ {T : Type 0} (moves refused : T → Event → T → Type 0) (fault : Ru
         ∙ same answer (record { input = rest; out = w ++ (done_with all).written; events = es }) first (record { input = rest; out = w ++ (done_with all).written; events = es })
 
     -- what followed the function was given up
-    pub asks_then_some : HearsSome tells i0 i1 was (Broken (λ es. TakesUntil moves refused fault a es b) said o0 o1 s asking)
-    asks_then_some = hears_some tells i0 i1 was is (Given said o0 o1 which values s answer) (Broken (λ es. TakesUntil moves refused fault a es b) said o0 o1 s asking) part r
+    pub asks_then_some : PartOnInputUntil tells i0 i1 was (PartGivenUp (λ es. TakesUntil moves refused fault a es b) said o0 o1 s asking)
+    asks_then_some = hears_some tells i0 i1 was is (Given said o0 o1 which values s answer) (PartGivenUp (λ es. TakesUntil moves refused fault a es b) said o0 o1 s asking) part r
       where
         fronts : {A : Type 0} (xs ys zs : List A) → IsPrefix (xs ++ ys) zs → IsPrefix xs zs
         fronts xs ys zs q = prefix_then xs (xs ++ ys) zs (record { rest = ys; is = refl }) q
@@ -147,7 +147,7 @@ module _ {T : Type 0} (moves refused : T → Event → T → Type 0) (fault : Ru
         fewer all rest w es written (Ticks c) h = record { holds = (fronts es events c.effects.events h.holds.0, h.holds.1) }
         fewer all rest w es written (Ends c) h = record { holds = (fronts es events c.effects.events h.holds.0, h.holds.1) }
 
-        part : (all rest : List ℕ) → Given said o0 o1 which values s answer all rest → Broken (λ es. TakesUntil moves refused fault a es b) said o0 o1 s asking all
+        part : (all rest : List ℕ) → Given said o0 o1 which values s answer all rest → PartGivenUp (λ es. TakesUntil moves refused fault a es b) said o0 o1 s asking all
         part all rest gives =
             let written = (done_with all).written in
             record {
@@ -177,16 +177,16 @@ quiet_call ms m s answer o = by_case answer
 
 -- what followed a built-in function that the top frame asked for was given up
 module _ {T : Type 0} (moves refused : T → Event → T → Type 0) (said : Type 0) (tells : Type 0) (o0 o1 i0 i1 : List ℕ) (was is : Bool) (ms : List Module) (which : Builtin) (values : Vec Value Global) (m : State) (s : Store)
-    (answer : Result Value Raised) (h : PlainHeap) (r : Hears tells i0 i1 was is (Given said o0 o1 which values s (plain_outcome answer h))) where
+    (answer : Result Value Raised) (h : PlainHeap) (r : PartOnInput tells i0 i1 was is (Given said o0 o1 which values s (plain_outcome answer h))) where
   -- for want of memory
-  pub asked_stops : (a : T) → HearsSome tells i0 i1 was (Broken (λ es. TakesSome moves refused a es a) said o0 o1 s (λ o. turned ms (Asks which values) (seen m s o)))
+  pub asked_stops : (a : T) → PartOnInputUntil tells i0 i1 was (PartGivenUp (λ es. TakesSome moves refused a es a) said o0 o1 s (λ o. turned ms (Asks which values) (seen m s o)))
   asked_stops a = asks_then_some moves refused NoMemory said tells o0 o1 i0 i1 was ms which values m s (plain_outcome answer h) is r a a [] (inl refl) (quiet_call ms m s (plain_outcome answer h))
 
   -- as its exception was thrown
   pub thrown_stops : (a b : T) (raised : Raised) (s2 : Store) → answer ≡ Err raised → world_of s2 ≡ world_of s
-      → GivenUp (λ es. TakesSome moves refused a es b) s2 (λ o. throw (by_slots ms) ms (plain_raised raised) (seen m s2 o))
-      → HearsSome tells i0 i1 was (Broken (λ es. TakesSome moves refused a es b) said o0 o1 s (λ o. turned ms (Asks which values) (seen m s o)))
+      → MoveGivenUp (λ es. TakesSome moves refused a es b) s2 (λ o. throw (by_slots ms) ms (plain_raised raised) (seen m s2 o))
+      → PartOnInputUntil tells i0 i1 was (PartGivenUp (λ es. TakesSome moves refused a es b) said o0 o1 s (λ o. turned ms (Asks which values) (seen m s o)))
   thrown_stops a b raised s2 e w p =
-      asks_then_some moves refused NoMemory said tells o0 o1 i0 i1 was ms which values m s (Err (plain_raised raised)) is (subst (λ x. Hears tells i0 i1 was is (Given said o0 o1 which values s (plain_outcome x h))) e r)
+      asks_then_some moves refused NoMemory said tells o0 o1 i0 i1 was ms which values m s (Err (plain_raised raised)) is (subst (λ x. PartOnInput tells i0 i1 was is (Given said o0 o1 which values s (plain_outcome x h))) e r)
       a b p.events p.has_told
       (λ o. elsewhere s2 s (and_told p.events o) _ (subst (λ n. Grows (effects_of s2 (and_told p.events o)) n) (ap (λ x. throw (by_slots ms) ms (plain_raised raised) (seen_in m x o)) w) (p.is o)))

@@ -22,14 +22,14 @@ use Rattle.py_code.specs.Machine.{by_answer, outer_call, outermost, follows}
 use Rattle.py_code.specs.Programs.{Run, script, run_by, end_of_run, run, Request, Reply, reach_global, reply_by, end_of_call, called}
 use Rattle.py_code.specs.Slots.{by_slots}
 use Rattle.py_code.specs.Units.{Module}
-use Rattle.py_store.specs.declared.store.Store.{Store}
-use Rattle.py_store.specs.Stores.{world_of}
+use Rattle.py_world.specs.declared.store.Store.{Store}
+use Rattle.py_world.specs.Stores.{world_of}
 use Rattle.py_instructions.specs.View.{Outside, effects_of}
 use Rattle.py_instructions.specs.declared.reach.Reach.{Reach as RawReach}
 use Rattle.py_instructions.specs.declared.reach.Reach.TheVariants.{Asks}
 use Rattle.py_instructions.specs.Reaching.{plain_reach}
 use Rattle.py_machine.specs.Runs.{StopsRun, StopsCall}
-use Rattle.py_machine.specs.Told.{Grown, TakesUntil, HeardSome, Stopped}
+use Rattle.py_machine.specs.Told.{Grown, TakesUntil, OnInputUntil, RunGivenUp}
 use Rattle.py_machine.proofs.GivesUp.{takes_until_all}
 use Rattle.py_machine.proofs.Grows.{grown_same, follows_grow, outermost_grows, outer_grows, global_reached}
 use Rattle.py_machine.proofs.Hearing.{heard_as, heard_lost}
@@ -60,9 +60,9 @@ module _ {T : Type 0} (moves refused : T → Event → T → Type 0) (fault : Ru
       at_end (Ok p) last g = g
       at_end (Err raised) last g = g
 
-  pub ask_stops : (tells → LosesPrefix i0 i1) → (said → GainsPrefix o0 o1 (done_with i0).written) → (a : T) → HeardSome tells i0 i1 (Stopped (λ es. TakesUntil moves refused fault a es a) said o0 o1 s (to reach))
+  pub ask_stops : (tells → LosesPrefix i0 i1) → (said → GainsPrefix o0 o1 (done_with i0).written) → (a : T) → OnInputUntil tells i0 i1 (RunGivenUp (λ es. TakesUntil moves refused fault a es a) said o0 o1 s (to reach))
   ask_stops lost gained a =
-      heard_lost tells i0 i1 lost (Stopped (λ es. TakesUntil moves refused fault a es a) said o0 o1 s (to reach)) (λ all. record {
+      heard_lost tells i0 i1 lost (RunGivenUp (λ es. TakesUntil moves refused fault a es a) said o0 o1 s (to reach)) (λ all. record {
         events = [];
         has_told = takes_until_all moves refused fault a a [] refl;
         is = λ w es. subst (λ z. Grown (effects_of s z) (to reach (outside all w es)).effects) (both all w es) (begins all w [] es (record { rest = (done_with all).written; is = refl }));
@@ -87,7 +87,7 @@ module _ (took : List Event → Type 0) (said : Type 0) (o0 o1 : List ℕ) (ms :
   unfolding run
   run_same all = ap (run_by budget) (end_same all)
 
-  one_stopped : (all : List ℕ) → Stopped took said o0 o1 s running all → StopsRun took said o0 o1 ms (world_of s) budget all
+  one_stopped : (all : List ℕ) → RunGivenUp took said o0 o1 s running all → StopsRun took said o0 o1 ms (world_of s) budget all
   one_stopped all x = record {
     told = x.events;
     has_told = x.has_told;
@@ -95,8 +95,8 @@ module _ (took : List Event → Type 0) (said : Type 0) (o0 o1 : List ℕ) (ms :
     wrote = λ t. let z = x.wrote t in record { front = z.0; prefix = subst (λ (r : Run). IsPrefix z.0 r.out) (sym (run_same all)) (z.2 [] []).1; is = z.1 };
   }
 
-  pub run_stops : (tells : Type 0) (i0 i1 : List ℕ) → HeardSome tells i0 i1 (Stopped took said o0 o1 s running) → HeardSome tells i0 i1 (StopsRun took said o0 o1 ms (world_of s) budget)
-  run_stops tells i0 i1 p = heard_as tells i0 (λ rest. LosesPrefix rest i1) (λ all rest. Stopped took said o0 o1 s running all) (λ all rest. StopsRun took said o0 o1 ms (world_of s) budget all) (λ all rest. one_stopped all) p
+  pub run_stops : (tells : Type 0) (i0 i1 : List ℕ) → OnInputUntil tells i0 i1 (RunGivenUp took said o0 o1 s running) → OnInputUntil tells i0 i1 (StopsRun took said o0 o1 ms (world_of s) budget)
+  run_stops tells i0 i1 p = heard_as tells i0 (λ rest. LosesPrefix rest i1) (λ all rest. RunGivenUp took said o0 o1 s running all) (λ all rest. StopsRun took said o0 o1 ms (world_of s) budget all) (λ all rest. one_stopped all) p
 
 -- a frame that nothing waits for begins with what there is
 pub outermost_first : (ms : List Module) (code : CodeId) (vs : List PlainValue) (budget : ℕ) (s : Store) (o : Outside) → Grown (effects_of s o) (follows (by_slots ms) ms (outermost (by_slots ms) ms code vs budget (effects_of s o))).effects
@@ -123,7 +123,7 @@ module _ (took : List Event → Type 0) (said : Type 0) (o0 o1 : List ℕ) (ms :
   unfolding called
   call_same all = ap (reply_by budget) (call_end_same all)
 
-  one_call_stopped : (all : List ℕ) → Stopped took said o0 o1 s calling all → StopsCall took said o0 o1 ms (world_of s) r budget all
+  one_call_stopped : (all : List ℕ) → RunGivenUp took said o0 o1 s calling all → StopsCall took said o0 o1 ms (world_of s) r budget all
   one_call_stopped all x = record {
     told = x.events;
     has_told = x.has_told;
@@ -131,8 +131,8 @@ module _ (took : List Event → Type 0) (said : Type 0) (o0 o1 : List ℕ) (ms :
     wrote = λ t. let z = x.wrote t in record { front = z.0; prefix = subst (λ (y : Reply). IsPrefix z.0 y.out) (sym (call_same all)) (z.2 [] []).1; is = z.1 };
   }
 
-  pub call_stops : (tells : Type 0) (i0 i1 : List ℕ) → HeardSome tells i0 i1 (Stopped took said o0 o1 s calling) → HeardSome tells i0 i1 (StopsCall took said o0 o1 ms (world_of s) r budget)
-  call_stops tells i0 i1 p = heard_as tells i0 (λ rest. LosesPrefix rest i1) (λ all rest. Stopped took said o0 o1 s calling all) (λ all rest. StopsCall took said o0 o1 ms (world_of s) r budget all) (λ all rest. one_call_stopped all) p
+  pub call_stops : (tells : Type 0) (i0 i1 : List ℕ) → OnInputUntil tells i0 i1 (RunGivenUp took said o0 o1 s calling) → OnInputUntil tells i0 i1 (StopsCall took said o0 o1 ms (world_of s) r budget)
+  call_stops tells i0 i1 p = heard_as tells i0 (λ rest. LosesPrefix rest i1) (λ all rest. RunGivenUp took said o0 o1 s calling all) (λ all rest. StopsCall took said o0 o1 ms (world_of s) r budget all) (λ all rest. one_call_stopped all) p
 
   -- it begins with what there is
   pub calling_first : (o : Outside) → Grown (effects_of s o) (calling o).effects

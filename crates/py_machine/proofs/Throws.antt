@@ -17,9 +17,9 @@ use Rattle.py_instructions.specs.declared.frame.Frame.{Frame as RawFrame}
 use Rattle.py_instructions.specs.declared.frame.State.{State}
 use Rattle.py_instructions.specs.declared.operand.Operand.{Operand as RawOperand}
 use Rattle.py_instructions.specs.declared.operand.Operand.TheVariants.{Value as OfValue}
-use Rattle.py_store.specs.declared.store.Store.{Store}
+use Rattle.py_world.specs.declared.store.Store.{Store}
 use Rattle.py_machine.specs.Told.{Went, Tells, Passed}
-use Rattle.py_store.specs.Stores.{world_of}
+use Rattle.py_world.specs.Stores.{world_of}
 use Rattle.py_instructions.specs.View.{Slots, Outside, plain_frame, effects_of, seen, catching}
 use Rattle.py_machine.proofs.Joins.{takes_then}
 

@@ -16,14 +16,14 @@ use Rattle.py_code.specs.Valid.{AreCodes}
 use Rattle.py_code.proofs.Codes.{never_misses}
 use Rattle.py_machine.specs.declared.ending.Ending.{Ending}
 use Rattle.py_machine.specs.declared.outcome.Outcome.{Outcome}
-use Rattle.py_store.specs.declared.store.Store.{Store}
+use Rattle.py_world.specs.declared.store.Store.{Store}
 use Rattle.py_machine.specs.declared.outcome.Called.{Called}
 use Rattle.py_machine.specs.Outcomes.{plain_outcome, plain_called}
 use Rattle.py_machine.specs.Runs.{IsRun, IsCall}
 use Rattle.py_instructions.specs.Reaching.{HasUnit}
-use Rattle.py_machine.specs.Told.{Heard, Ran, ended}
+use Rattle.py_machine.specs.Told.{OnInput, Ran, ended}
 use Rattle.py_machine.specs.Endings.{plain_ended}
-use Rattle.py_store.specs.Stores.{world_of}
+use Rattle.py_world.specs.Stores.{world_of}
 use Rattle.py_instructions.specs.View.{Slots, effects_of}
 use Rattle.py_machine.proofs.Hearing.{heard_as}
 
@@ -53,16 +53,16 @@ module _ (took : List Event → Type 0) (wrote : List ℕ → Type 0) (ms : List
   }
 
 pub is_run : (tells : Type 0) (i0 i1 : List ℕ) (took : List Event → Type 0) (wrote : List ℕ → Type 0) (ms : List Module) (s s2 : Store) (budget steps n : ℕ) (ending : Ending) (outcome : Outcome)
-    → Heard tells i0 i1 (Ran took wrote (λ o. follows (by_slots ms) ms (outermost (by_slots ms) ms script [] budget (effects_of s o))) ending steps s2)
+    → OnInput tells i0 i1 (Ran took wrote (λ o. follows (by_slots ms) ms (outermost (by_slots ms) ms script [] budget (effects_of s o))) ending steps s2)
     → plain_outcome outcome ≡ outcome_by (plain_heap s2.heap) (plain_ended ending) → n ≡ budget - steps
-    → Heard tells i0 i1 (IsRun took wrote ms (world_of s) budget (record { outcome = outcome; steps = n }) (world_of s2))
+    → OnInput tells i0 i1 (IsRun took wrote ms (world_of s) budget (record { outcome = outcome; steps = n }) (world_of s2))
 is_run tells i0 i1 took wrote ms s s2 budget steps n ending outcome r e f =
     heard_as tells i0 (λ rest. rest ≡ i1) (Ran took wrote (λ o. follows (by_slots ms) ms (outermost (by_slots ms) ms script [] budget (effects_of s o))) ending steps s2)
     (IsRun took wrote ms (world_of s) budget (record { outcome = outcome; steps = n }) (world_of s2)) (λ all rest x. one_run took wrote ms s s2 budget steps ending all rest n outcome x e f) r
 
 -- it isn't stuck
 pub ran_over : (tells : Type 0) (i0 i1 : List ℕ) (took : List Event → Type 0) (wrote : List ℕ → Type 0) (ms : List Module) → 0 < length ms → AreCodes ms → (s s2 : Store) (budget steps : ℕ) (ending : Ending)
-    → Heard tells i0 i1 (Ran took wrote (λ o. follows (by_slots ms) ms (outermost (by_slots ms) ms script [] budget (effects_of s o))) ending steps s2) → IsOver (plain_ended ending)
+    → OnInput tells i0 i1 (Ran took wrote (λ o. follows (by_slots ms) ms (outermost (by_slots ms) ms script [] budget (effects_of s o))) ending steps s2) → IsOver (plain_ended ending)
 ran_over tells i0 i1 took wrote ms some codes s s2 budget steps ending r = run_over took wrote ms s s2 budget steps ending r.input r.rest some codes (r.holds r.input r.rest r.fed)
 
 first_unit : (us : List Code) → 0 < length us → (u : Code) × (slice_get us 0 ≡ Some u)
@@ -100,14 +100,14 @@ module _ (took : List Event → Type 0) (wrote : List ℕ → Type 0) (ms : List
   }
 
 pub is_call : (tells : Type 0) (i0 i1 : List ℕ) (took : List Event → Type 0) (wrote : List ℕ → Type 0) (ms : List Module) (s s2 : Store) (r : Request) (budget steps n : ℕ) (ending : Ending) (how : Called)
-    → Heard tells i0 i1 (Came took wrote ms s s2 r budget steps ending)
+    → OnInput tells i0 i1 (Came took wrote ms s s2 r budget steps ending)
     → plain_called how ≡ returned_by (plain_heap s2.heap) (plain_ended ending) → n ≡ budget - steps
-    → Heard tells i0 i1 (IsCall took wrote ms (world_of s) r budget (record { called = how; steps = n }) (world_of s2))
+    → OnInput tells i0 i1 (IsCall took wrote ms (world_of s) r budget (record { called = how; steps = n }) (world_of s2))
 is_call tells i0 i1 took wrote ms s s2 r budget steps n ending how x e f =
     heard_as tells i0 (λ rest. rest ≡ i1) (Came took wrote ms s s2 r budget steps ending)
     (IsCall took wrote ms (world_of s) r budget (record { called = how; steps = n }) (world_of s2)) (λ all rest y. one_call took wrote ms s s2 r budget steps ending all rest n how y e f) x
 
 -- it isn't stuck
 pub called_over : (tells : Type 0) (i0 i1 : List ℕ) (took : List Event → Type 0) (wrote : List ℕ → Type 0) (ms : List Module) → 0 < length ms → AreCodes ms → (s s2 : Store) (r : Request) (budget steps : ℕ) (ending : Ending)
-    → Heard tells i0 i1 (Came took wrote ms s s2 r budget steps ending) → IsOver (plain_ended ending)
+    → OnInput tells i0 i1 (Came took wrote ms s s2 r budget steps ending) → IsOver (plain_ended ending)
 called_over tells i0 i1 took wrote ms some codes s s2 r budget steps ending x = call_over took wrote ms s s2 r budget steps ending x.input x.rest some codes (x.holds x.input x.rest x.fed)

@@ -7,13 +7,13 @@ use Rattle.py_value.specs.Plain.{PlainValue}
 use Rattle.py_builtins.specs.World.{World}
 use Rattle.py_code.specs.Programs.{first_world}
 use Rattle.py_code.specs.Units.{Module}
-use Rattle.py_fits.specs.Fits.{Fits}
-use Rattle.py_fits.specs.Laws.{values_given}
-use Rattle.py_fits.specs.Making.{AreMakers}
+use Rattle.py_world_laws.specs.Fits.{Fits}
+use Rattle.py_world_laws.specs.Laws.{values_given}
+use Rattle.py_world_laws.specs.Making.{AreMakers}
 use Rattle.py_machine.specs.declared.outcome.Called.{Called}
 use Rattle.py_machine.specs.Outcomes.{plain_called}
-use Rattle.py_store.specs.declared.store.Store.{Store}
-use Rattle.py_store.specs.Stores.{world_of}
+use Rattle.py_world.specs.declared.store.Store.{Store}
+use Rattle.py_world.specs.Stores.{world_of}
 
 -- a world that fits is left as one that fits
 abbrev pub RunFits : List Module → World → World → Type 0

@@ -1,7 +1,7 @@
 -- What becomes of a tracer, a source and a sink in a part of a run.
---     OnHeard             what holds of every input that gives the answers which were read
---     Heard               the same, and what the source has left then
---     Opens, Hears        the same of a part of a run, and whether the source was at its end
+--     OnInputs             what holds of every input that gives the answers which were read
+--     OnInput               the same, and what the source has left then
+--     Opens, PartOnInput        the same of a part of a run, and whether the source was at its end
 --     Went                where a move leads
 --     Tells, Passed       a part that only tells events, and one that is left in the middle
 --     Part                any part
@@ -13,10 +13,10 @@
 --     TakesSome           one that may have refused the last
 --     TakesUntil          one that may have, where memory was wanting
 --     CallsSome           one that was called, whatever it did
---     HeardSome           what holds of every input, where a read may have been given up
---     HearsSome           the same of a part of a run
---     GivenUp, Broken     a part of a run that was given up
---     Stopped             a run that was given up
+--     OnInputUntil           what holds of every input, where a read may have been given up
+--     PartOnInputUntil           the same of a part of a run
+--     MoveGivenUp, PartGivenUp     a part of a run that was given up
+--     RunGivenUp             a run that was given up
 use Rattle.std.specs.Prelude.{◌≡◌, ℕ, Bool, true, false, List, [], ◌∷◌, ◌++◌, Option, Some, None, ◌⊎◌}
 use Rattle.cov_event.specs.declared.event.Event.{Event}
 use Rattle.cov_event.specs.Moves.{Takes, Calls}
@@ -32,13 +32,13 @@ use Rattle.py_code.specs.Units.{Code, Module, unit_at}
 use Rattle.py_machine.specs.declared.ending.Ending.{Ending}
 use Rattle.py_machine.specs.Endings.{plain_ended}
 use Rattle.py_instructions.specs.declared.frame.State.{State}
-use Rattle.py_store.specs.declared.store.Store.{Store}
+use Rattle.py_world.specs.declared.store.Store.{Store}
 use Rattle.py_instructions.specs.View.{Slots, Outside, plain_operands, effects_of}
 
 -- It holds of every input that gives the answers which were read, and of what this input has left
 -- then. There is such an input. The bytes of a source that tells them are one, and what it left of
 -- them is told.
-pub record OnHeard (tells : Type 0) (before : List ℕ) (left : List ℕ → Type 0)
+pub record OnInputs (tells : Type 0) (before : List ℕ) (left : List ℕ → Type 0)
     (P : List ℕ → List ℕ → Type 0) : Type 0 where
   pub heard : List (Option ℕ)
   pub input : List ℕ
@@ -48,8 +48,8 @@ pub record OnHeard (tells : Type 0) (before : List ℕ) (left : List ℕ → Typ
   pub holds : (all rest : List ℕ) → Fed heard all rest → P all rest
 
 -- a source that tells its bytes has these left
-abbrev pub Heard : Type 0 → List ℕ → List ℕ → (List ℕ → List ℕ → Type 0) → Type 0
-Heard tells before after P = OnHeard tells before (λ rest. rest ≡ after) P
+abbrev pub OnInput : Type 0 → List ℕ → List ℕ → (List ℕ → List ℕ → Type 0) → Type 0
+OnInput tells before after P = OnInputs tells before (λ rest. rest ≡ after) P
 
 -- It holds also with these bytes in front of any others, which are left then. Either they are those
 -- that were read, or the end of the input was met.
@@ -60,9 +60,9 @@ pub record Opens (P : List ℕ → List ℕ → Type 0) (input rest : List ℕ) 
 
 -- A part of a run, and whether the source was at its end before it and after it. At its end it
 -- gives no byte and stays there; before its end any bytes may follow.
-pub record Hears (tells : Type 0) (before after : List ℕ) (was is : Bool)
+pub record PartOnInput (tells : Type 0) (before after : List ℕ) (was is : Bool)
     (P : List ℕ → List ℕ → Type 0) : Type 0 where
-  pub hears : Heard tells before after P
+  pub hears : OnInput tells before after P
   pub stays : was ≡ true → (hears.input ≡ []) × (is ≡ true)
   pub closes : is ≡ true → hears.rest ≡ []
   pub opens : is ≡ false → Opens P hears.input hears.rest
@@ -103,7 +103,7 @@ abbrev pub Step : Type 0 → List ℕ → List ℕ → Bool → Bool → (List E
     → (List ℕ → Type 0) → (Outside → Next Slots) → (Outside → Configuration Slots)
     → Option Ending → Type 0
 Step tells left after was is took wrote before now how =
-    Hears tells left after was is (Part took wrote before now how)
+    PartOnInput tells left after was is (Part took wrote before now how)
 
 -- a run on its way: it goes on as one from another configuration, with these events told and bytes
 -- written in between
@@ -189,7 +189,7 @@ abbrev pub CallsSome : {T : Type 0} → (T → Event → T → Type 0) → (T �
 CallsSome moves refused old new = (calls : List (Event × Bool)) × Calls moves refused old calls new
 
 -- a move that was given up: the events that were told are those that the move begins with
-pub record GivenUp (took : List Event → Type 0) (s : Store)
+pub record MoveGivenUp (took : List Event → Type 0) (s : Store)
     (before : Outside → Next Slots) : Type 0 where
   pub events : List Event
   pub has_told : took events
@@ -198,19 +198,19 @@ pub record GivenUp (took : List Event → Type 0) (s : Store)
 
 -- It holds of every input that gives the answers which were read before the last one. There is such
 -- an input, and the bytes of a source that tells them are one: it lost a prefix of them.
-abbrev pub HeardSome : Type 0 → List ℕ → List ℕ → (List ℕ → Type 0) → Type 0
-HeardSome tells before after P =
-    OnHeard tells before (λ rest. LosesPrefix rest after) (λ all rest. P all)
+abbrev pub OnInputUntil : Type 0 → List ℕ → List ℕ → (List ℕ → Type 0) → Type 0
+OnInputUntil tells before after P =
+    OnInputs tells before (λ rest. LosesPrefix rest after) (λ all rest. P all)
 
 -- a part of a run, and whether the source was at its end before it
-pub record HearsSome (tells : Type 0) (before after : List ℕ) (was : Bool)
+pub record PartOnInputUntil (tells : Type 0) (before after : List ℕ) (was : Bool)
     (P : List ℕ → Type 0) : Type 0 where
-  pub hears : HeardSome tells before after P
+  pub hears : OnInputUntil tells before after P
   pub stays : was ≡ true → hears.input ≡ []
 
 -- a move that was given up with this input: what was told, and what was written, is what it begins
 -- with
-pub record Broken (took : List Event → Type 0) (said : Type 0) (o0 o1 : List ℕ) (s : Store)
+pub record PartGivenUp (took : List Event → Type 0) (said : Type 0) (o0 o1 : List ℕ) (s : Store)
     (before : Outside → Next Slots) (all : List ℕ) : Type 0 where
   pub events : List Event
   pub has_told : took events
@@ -222,7 +222,7 @@ pub record Broken (took : List Event → Type 0) (said : Type 0) (o0 o1 : List �
       → Grows (effects_of s (outside all (w ++ out) es)) (before (outside all w es)))
 
 -- a run that was given up with this input
-pub record Stopped (took : List Event → Type 0) (said : Type 0) (o0 o1 : List ℕ) (s : Store)
+pub record RunGivenUp (took : List Event → Type 0) (said : Type 0) (o0 o1 : List ℕ) (s : Store)
     (before : Outside → End) (all : List ℕ) : Type 0 where
   pub events : List Event
   pub has_told : took events

@@ -12,9 +12,9 @@ ghost use Rattle.py_code.specs.Valid.{AreCodes};
 ghost use Rattle.py_machine.specs.Fitting.{CallFits};
 ghost use Rattle.py_instructions.specs.Reaching.{plain_reach, BeginsUnit};
 ghost use Rattle.py_machine.specs.Runs.{IsCall, StopsCall, request};
-ghost use Rattle.py_machine.specs.Told.{Heard, Ran as Ends, TakesUntil, CallsSome, HeardSome, Stopped};
+ghost use Rattle.py_machine.specs.Told.{OnInput, Ran as Ends, TakesUntil, CallsSome, OnInputUntil, RunGivenUp};
 ghost use Rattle.py_instructions.specs.View.{effects_of};
-ghost use Rattle.py_store.specs.Stores.{world_of};
+ghost use Rattle.py_world.specs.Stores.{world_of};
 
 use crate::ending::Ending;
 use crate::outcome::Answer;
@@ -25,9 +25,9 @@ use cov_outside::{Sink, Source};
 use py_builtins::{RunFault, call_builtin};
 use py_code::Programs;
 use py_instructions::Reach;
-use py_store::Store;
 use py_value::value::copy_all;
 use py_value::{Text, Value};
+use py_world::Store;
 use std::alloc::Global;
 
 /// Calls the function that a global of a module holds, on a store, within a budget of steps.
@@ -45,14 +45,14 @@ pub fn call<T: Tracer, I: Source, O: Sink>(
 ) -> Result<Answer, RunFault>
     requires some { 0 < length (modules_of programs.now) }
     requires few { length (modules_of programs.now) ≤ most_numbered }
-    ensures ok { IfOk result (λ answer. Heard I.tells (I.left input.old) (I.left input.new)
+    ensures ok { IfOk result (λ answer. OnInput I.tells (I.left input.old) (I.left input.new)
         (IsCall (λ es. Takes T.moves tracer.old es tracer.new)
         (Wrote O.tells (O.contents out.old) (O.contents out.new)) (modules_of programs.now)
         (world_of store.old) (request «module» (chars function.now) (plains args.now)) budget
         answer (world_of store.new))) }
     ensures fits { IfOk result (λ answer. CallFits (modules_of programs.now) (world_of store.old)
         (plains args.now) answer.called (world_of store.new)) }
-    ensures given_up { IfErr result (λ fault. HeardSome I.tells (I.left input.old)
+    ensures given_up { IfErr result (λ fault. OnInputUntil I.tells (I.left input.old)
         (I.left input.new)
         (StopsCall (λ es. TakesUntil T.moves T.refused fault tracer.old es tracer.new) O.tells
         (O.contents out.old) (O.contents out.new) (modules_of programs.now)
@@ -91,16 +91,16 @@ fn finish<T: Tracer, I: Source, O: Sink>(
     requires few { length (modules_of programs.now) ≤ most_numbered }
     requires valid { AreCodes (modules_of programs.now) }
     requires unit { BeginsUnit (modules_of programs.now) reach }
-    ensures ok { IfOk result (λ e. Heard I.tells (I.left input.old) (I.left input.new)
+    ensures ok { IfOk result (λ e. OnInput I.tells (I.left input.old) (I.left input.new)
         (Ends (λ es. Takes T.moves tracer.old es tracer.new)
         (Wrote O.tells (O.contents out.old) (O.contents out.new))
         (λ o. follows (by_slots (modules_of programs.now)) (modules_of programs.now)
         (outer_call (by_slots (modules_of programs.now)) (modules_of programs.now)
         (plain_reach reach (effects_of store.old o)) budget (effects_of store.old o)))
         e.ending e.steps store.new)) }
-    ensures given_up { IfErr result (λ fault. HeardSome I.tells (I.left input.old)
+    ensures given_up { IfErr result (λ fault. OnInputUntil I.tells (I.left input.old)
         (I.left input.new)
-        (Stopped (λ es. TakesUntil T.moves T.refused fault tracer.old es tracer.new) O.tells
+        (RunGivenUp (λ es. TakesUntil T.moves T.refused fault tracer.old es tracer.new) O.tells
         (O.contents out.old) (O.contents out.new) store.old
         (λ o. follows (by_slots (modules_of programs.now)) (modules_of programs.now)
         (outer_call (by_slots (modules_of programs.now)) (modules_of programs.now)

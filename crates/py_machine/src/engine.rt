@@ -7,8 +7,8 @@ ghost use Rattle.py_builtins.specs.Inputs.{Wrote};
 ghost use Rattle.py_code.specs.Loaded.{modules_of, most_numbered};
 ghost use Rattle.py_machine.specs.Fitting.{RunFits};
 ghost use Rattle.py_machine.specs.Runs.{IsRun, StopsRun};
-ghost use Rattle.py_machine.specs.Told.{Heard, TakesUntil, HeardSome};
-ghost use Rattle.py_store.specs.Stores.{world_of};
+ghost use Rattle.py_machine.specs.Told.{OnInput, TakesUntil, OnInputUntil};
+ghost use Rattle.py_world.specs.Stores.{world_of};
 
 use crate::outcome::Ran;
 use crate::runs::run;
@@ -16,7 +16,7 @@ use cov_event::Tracer;
 use cov_outside::{Sink, Source};
 use py_builtins::RunFault;
 use py_code::Programs;
-use py_store::Store;
+use py_world::Store;
 use std::alloc::Global;
 
 /// Runs programs. An engine that is true runs them as their code says.
@@ -40,7 +40,7 @@ pub trait Engine {
         requires some { 0 < length (modules_of programs.now) }
         requires few { length (modules_of programs.now) ≤ most_numbered }
         ensures ok { faithful
-            → IfOk result (λ ran. Heard I.tells (I.left input.old) (I.left input.new)
+            → IfOk result (λ ran. OnInput I.tells (I.left input.old) (I.left input.new)
             (IsRun (λ es. Takes T.moves tracer.old es tracer.new)
             (Wrote O.tells (O.contents out.old) (O.contents out.new)) (modules_of programs.now)
             (world_of store.old) budget ran (world_of store.new))) }
@@ -48,7 +48,7 @@ pub trait Engine {
             → IfOk result (λ ran. RunFits (modules_of programs.now) (world_of store.old)
             (world_of store.new)) }
         ensures given_up { faithful
-            → IfErr result (λ fault. HeardSome I.tells (I.left input.old)
+            → IfErr result (λ fault. OnInputUntil I.tells (I.left input.old)
             (I.left input.new)
             (StopsRun (λ es. TakesUntil T.moves T.refused fault tracer.old es tracer.new) O.tells
             (O.contents out.old) (O.contents out.new) (modules_of programs.now)

@@ -5,15 +5,15 @@ ghost use Rattle.py_value.specs.View.{plain, plain_raised};
 ghost use Rattle.py_code.specs.Loaded.{modules_of};
 ghost use Rattle.py_code.specs.Machine.{leave, throw, escapes, give};
 ghost use Rattle.py_code.specs.Slots.{by_slots};
-ghost use Rattle.py_machine.specs.Told.{Tells, TakesSome, GivenUp};
+ghost use Rattle.py_machine.specs.Told.{Tells, TakesSome, MoveGivenUp};
 ghost use Rattle.py_instructions.specs.View.{plain_frame, effects_of, seen};
 
 use crate::ending::Ending;
 use cov_event::{Event, Tracer};
 use py_code::Programs;
 use py_instructions::{Operand, State};
-use py_store::Store;
 use py_value::{NoMemory, Raised, Value};
+use py_world::Store;
 use std::alloc::{AllocError, Global};
 
 /// An exception leaves the top frame.
@@ -30,7 +30,7 @@ fn leave<T: Tracer>(
         (plain_raised raised) m.old.top.code (map plain_frame m.old.callers) m.old.steps
         (effects_of store.old o))
         (seen m.new store.new) how) }
-    ensures given_up { OnErr result (GivenUp
+    ensures given_up { OnErr result (MoveGivenUp
         (λ es. TakesSome T.moves T.refused tracer.old es tracer.new) store.old
         (λ o. leave (by_slots (modules_of programs.now)) (modules_of programs.now)
         (plain_raised raised) m.old.top.code (map plain_frame m.old.callers) m.old.steps
@@ -67,7 +67,7 @@ pub fn escape<T: Tracer>(
         (λ o. escapes (by_slots (modules_of programs.now)) (modules_of programs.now)
         (plain_raised raised) is_thrown (seen m.old store.old o))
         (seen m.new store.new) how) }
-    ensures given_up { OnErr result (GivenUp
+    ensures given_up { OnErr result (MoveGivenUp
         (λ es. TakesSome T.moves T.refused tracer.old es tracer.new) store.old
         (λ o. escapes (by_slots (modules_of programs.now)) (modules_of programs.now)
         (plain_raised raised) is_thrown (seen m.old store.old o))) }
@@ -92,7 +92,7 @@ pub fn throw<T: Tracer>(
         (λ o. throw (by_slots (modules_of programs.now)) (modules_of programs.now)
         (plain_raised raised) (seen m.old store.old o))
         (seen m.new store.new) how) }
-    ensures given_up { OnErr result (GivenUp
+    ensures given_up { OnErr result (MoveGivenUp
         (λ es. TakesSome T.moves T.refused tracer.old es tracer.new) store.old
         (λ o. throw (by_slots (modules_of programs.now)) (modules_of programs.now)
         (plain_raised raised) (seen m.old store.old o))) }
@@ -114,7 +114,7 @@ pub fn give<T: Tracer>(
         (λ o. give (by_slots (modules_of programs.now)) (modules_of programs.now) (plain value)
         (map plain_frame m.old.callers) m.old.steps (effects_of store.now o))
         (seen m.new store.now) how) }
-    ensures given_up { OnErr result (GivenUp
+    ensures given_up { OnErr result (MoveGivenUp
         (λ es. TakesSome T.moves T.refused tracer.old es tracer.new) store.now
         (λ o. give (by_slots (modules_of programs.now)) (modules_of programs.now) (plain value)
         (map plain_frame m.old.callers) m.old.steps (effects_of store.now o))) }

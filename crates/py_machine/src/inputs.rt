@@ -9,7 +9,7 @@ ghost use Rattle.py_builtins.specs.Answering.{RaiseKeeps};
 ghost use Rattle.py_builtins.specs.Builtins.{builtin_of};
 ghost use Rattle.py_builtins.specs.Inputs.{Gives, Wrote};
 ghost use Rattle.py_machine.specs.Ends.{finds_end};
-ghost use Rattle.py_machine.specs.Told.{Hears, IsAtEnd};
+ghost use Rattle.py_machine.specs.Told.{PartOnInput, IsAtEnd};
 
 use cov_outside::{Failed, Sink, Source};
 use py_builtins::{RunFault, call_builtin};
@@ -49,8 +49,8 @@ pub fn call_to_end<I: Source, O: Sink>(
     out: &mut O,
 ) -> Result<Result<Value, Raised>, RunFault>
     requires { IsAtEnd at_end.old I.tells (I.left input.old) }
-    ensures answer { IfOk result (λ answer. Hears I.tells (I.left input.old) (I.left input.new)
-        at_end.old at_end.new
+    ensures answer { IfOk result (λ answer. PartOnInput
+        I.tells (I.left input.old) (I.left input.new) at_end.old at_end.new
         (λ all rest. Gives (builtin_of which (plains args.now) (plain_heap heap.old) all)
         (plain_outcome answer (plain_heap heap.new))
         (Wrote O.tells (O.contents out.old) (O.contents out.new)) rest)) }

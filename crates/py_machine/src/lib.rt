@@ -20,5 +20,5 @@ pub use ending::Ending;
 pub use engine::{Engine, Machine};
 pub use fitting::new_store_fits;
 pub use outcome::{Answer, Called, Outcome, Ran};
-pub use py_store::Store;
+pub use py_world::Store;
 pub use runs::run;

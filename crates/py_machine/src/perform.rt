@@ -7,7 +7,7 @@ ghost use Rattle.py_code.specs.Loaded.{modules_of, most_numbered};
 ghost use Rattle.py_code.specs.Machine.{move};
 ghost use Rattle.py_code.specs.Slots.{by_slots};
 ghost use Rattle.py_instructions.specs.declared.turn.Turn.TheVariants.{Asks};
-ghost use Rattle.py_machine.specs.Told.{IsAtEnd, Step, TakesUntil, CallsSome, HearsSome, Broken};
+ghost use Rattle.py_machine.specs.Told.{IsAtEnd, Step, TakesUntil, CallsSome, PartOnInputUntil, PartGivenUp};
 ghost use Rattle.py_instructions.specs.View.{seen, turned};
 
 use crate::ending::Ending;
@@ -18,8 +18,8 @@ use cov_outside::{Sink, Source};
 use py_builtins::RunFault;
 use py_code::Programs;
 use py_instructions::{Operand, State, Turn, emptied};
-use py_store::Store;
 use py_value::{Builtin, Value};
+use py_world::Store;
 use std::alloc::Global;
 
 /// Calls a built-in function for the top frame. `at_end`: whether the input was found at its end.
@@ -42,9 +42,9 @@ fn ask<T: Tracer, I: Source, O: Sink>(
         (Wrote O.tells (O.contents out.old) (O.contents out.new))
         (λ o. turned (modules_of programs.now) (Asks which values) (seen m.old store.old o))
         (seen m.new store.new) how) }
-    ensures given_up { IfErr result (λ fault. HearsSome I.tells (I.left input.old)
+    ensures given_up { IfErr result (λ fault. PartOnInputUntil I.tells (I.left input.old)
         (I.left input.new) at_end.old
-        (Broken (λ es. TakesUntil T.moves T.refused fault tracer.old es tracer.new) O.tells
+        (PartGivenUp (λ es. TakesUntil T.moves T.refused fault tracer.old es tracer.new) O.tells
         (O.contents out.old) (O.contents out.new) store.old
         (λ o. turned (modules_of programs.now) (Asks which values) (seen m.old store.old o)))) }
     ensures unread { at_end.old ≡ true → input.new ≡ input.old }
@@ -93,9 +93,9 @@ fn perform<T: Tracer, I: Source, O: Sink>(
         (Wrote O.tells (O.contents out.old) (O.contents out.new))
         (λ o. turned (modules_of programs.now) turn (seen m.old store.old o))
         (seen m.new store.new) how) }
-    ensures given_up { IfErr result (λ fault. HearsSome I.tells (I.left input.old)
+    ensures given_up { IfErr result (λ fault. PartOnInputUntil I.tells (I.left input.old)
         (I.left input.new) at_end.old
-        (Broken (λ es. TakesUntil T.moves T.refused fault tracer.old es tracer.new) O.tells
+        (PartGivenUp (λ es. TakesUntil T.moves T.refused fault tracer.old es tracer.new) O.tells
         (O.contents out.old) (O.contents out.new) store.old
         (λ o. turned (modules_of programs.now) turn (seen m.old store.old o)))) }
     ensures unread { at_end.old ≡ true → input.new ≡ input.old }
@@ -146,9 +146,9 @@ pub fn step<T: Tracer, I: Source, O: Sink>(
         (Wrote O.tells (O.contents out.old) (O.contents out.new))
         (λ o. move (by_slots (modules_of programs.now)) (modules_of programs.now)
         (seen m.old store.old o)) (seen m.new store.new) how) }
-    ensures given_up { IfErr result (λ fault. HearsSome I.tells (I.left input.old)
+    ensures given_up { IfErr result (λ fault. PartOnInputUntil I.tells (I.left input.old)
         (I.left input.new) at_end.old
-        (Broken (λ es. TakesUntil T.moves T.refused fault tracer.old es tracer.new) O.tells
+        (PartGivenUp (λ es. TakesUntil T.moves T.refused fault tracer.old es tracer.new) O.tells
         (O.contents out.old) (O.contents out.new) store.old
         (λ o. move (by_slots (modules_of programs.now)) (modules_of programs.now)
         (seen m.old store.old o)))) }

@@ -8,12 +8,12 @@ ghost use Rattle.py_code.specs.Loaded.{modules_of};
 ghost use Rattle.py_code.specs.Programs.{reach_global};
 ghost use Rattle.py_instructions.specs.Reaching.{plain_reach, BeginsUnit};
 ghost use Rattle.py_instructions.specs.View.{Outside, effects_of};
-ghost use Rattle.py_store.specs.Stores.{world_of};
+ghost use Rattle.py_world.specs.Stores.{world_of};
 
 use py_code::Programs;
 use py_instructions::Reach;
-use py_store::{Store, name_unknown};
 use py_value::{NoMemory, Text, Value};
+use py_world::{Store, name_unknown};
 use std::alloc::Global;
 
 /// A call of what a global of a module holds.

@@ -11,9 +11,9 @@ ghost use Rattle.py_code.specs.Slots.{by_slots};
 ghost use Rattle.py_code.specs.Valid.{AreCodes};
 ghost use Rattle.py_machine.specs.Fitting.{RunFits};
 ghost use Rattle.py_machine.specs.Runs.{IsRun, StopsRun};
-ghost use Rattle.py_machine.specs.Told.{Heard, Ran as Ends, AtStart, TakesUntil, CallsSome, HeardSome, Stopped};
+ghost use Rattle.py_machine.specs.Told.{OnInput, Ran as Ends, AtStart, TakesUntil, CallsSome, OnInputUntil, RunGivenUp};
 ghost use Rattle.py_instructions.specs.Reaching.{HasUnit};
-ghost use Rattle.py_store.specs.Stores.{world_of};
+ghost use Rattle.py_world.specs.Stores.{world_of};
 ghost use Rattle.py_instructions.specs.View.{plain_frame, effects_of, seen};
 
 use crate::ending::Ending;
@@ -24,8 +24,8 @@ use cov_outside::{Sink, Source};
 use py_builtins::RunFault;
 use py_code::Programs;
 use py_instructions::{Stack, State, new_frame};
-use py_store::Store;
 use py_value::{NoMemory, Value};
+use py_world::Store;
 use std::alloc::Global;
 
 /// Runs the script on a store, within a budget of steps.
@@ -40,13 +40,13 @@ pub fn run<T: Tracer, I: Source, O: Sink>(
 ) -> Result<Ran, RunFault>
     requires some { 0 < length (modules_of programs.now) }
     requires few { length (modules_of programs.now) ≤ most_numbered }
-    ensures ok { IfOk result (λ ran. Heard I.tells (I.left input.old) (I.left input.new)
+    ensures ok { IfOk result (λ ran. OnInput I.tells (I.left input.old) (I.left input.new)
         (IsRun (λ es. Takes T.moves tracer.old es tracer.new)
         (Wrote O.tells (O.contents out.old) (O.contents out.new)) (modules_of programs.now)
         (world_of store.old) budget ran (world_of store.new))) }
     ensures fits { IfOk result (λ ran. RunFits (modules_of programs.now) (world_of store.old)
         (world_of store.new)) }
-    ensures given_up { IfErr result (λ fault. HeardSome I.tells (I.left input.old)
+    ensures given_up { IfErr result (λ fault. OnInputUntil I.tells (I.left input.old)
         (I.left input.new)
         (StopsRun (λ es. TakesUntil T.moves T.refused fault tracer.old es tracer.new) O.tells
         (O.contents out.old) (O.contents out.new) (modules_of programs.now)
@@ -100,16 +100,16 @@ pub fn begin<T: Tracer, I: Source, O: Sink>(
     requires some { 0 < length (modules_of programs.now) }
     requires valid { AreCodes (modules_of programs.now) }
     requires unit { HasUnit (modules_of programs.now) code }
-    ensures ok { IfOk result (λ e. Heard I.tells (I.left input.old) (I.left input.new)
+    ensures ok { IfOk result (λ e. OnInput I.tells (I.left input.old) (I.left input.new)
         (Ends (λ es. Takes T.moves tracer.old es tracer.new)
         (Wrote O.tells (O.contents out.old) (O.contents out.new))
         (λ o. follows (by_slots (modules_of programs.now)) (modules_of programs.now)
         (outermost (by_slots (modules_of programs.now)) (modules_of programs.now) code
         (plains values.items) budget (effects_of store.old o)))
         e.ending e.steps store.new)) }
-    ensures given_up { IfErr result (λ fault. HeardSome I.tells (I.left input.old)
+    ensures given_up { IfErr result (λ fault. OnInputUntil I.tells (I.left input.old)
         (I.left input.new)
-        (Stopped (λ es. TakesUntil T.moves T.refused fault tracer.old es tracer.new) O.tells
+        (RunGivenUp (λ es. TakesUntil T.moves T.refused fault tracer.old es tracer.new) O.tells
         (O.contents out.old) (O.contents out.new) store.old
         (λ o. follows (by_slots (modules_of programs.now)) (modules_of programs.now)
         (outermost (by_slots (modules_of programs.now)) (modules_of programs.now) code
@@ -177,15 +177,15 @@ fn go_on<T: Tracer, I: Source, O: Sink>(
     requires some { 0 < length (modules_of programs.now) }
     requires valid { AreCodes (modules_of programs.now) }
     requires start { AtStart (modules_of programs.now) m.old }
-    ensures ok { IfOk result (λ ending. Heard I.tells (I.left input.old) (I.left input.new)
+    ensures ok { IfOk result (λ ending. OnInput I.tells (I.left input.old) (I.left input.new)
         (Ends (λ es. Takes T.moves tracer.old es tracer.new)
         (Wrote O.tells (O.contents out.old) (O.contents out.new))
         (λ o. go (machine (by_slots (modules_of programs.now)) (modules_of programs.now))
         (seen m.old store.old o))
         ending m.new.steps store.new)) }
-    ensures given_up { IfErr result (λ fault. HeardSome I.tells (I.left input.old)
+    ensures given_up { IfErr result (λ fault. OnInputUntil I.tells (I.left input.old)
         (I.left input.new)
-        (Stopped (λ es. TakesUntil T.moves T.refused fault tracer.old es tracer.new) O.tells
+        (RunGivenUp (λ es. TakesUntil T.moves T.refused fault tracer.old es tracer.new) O.tells
         (O.contents out.old) (O.contents out.new) store.old
         (λ o. go (machine (by_slots (modules_of programs.now)) (modules_of programs.now))
         (seen m.old store.old o)))) }

@@ -17,7 +17,16 @@ impl Value {
             Value::Bool(true) => Some(1),
             Value::Bool(false) => Some(0),
             Value::Int(n) => Some(*n),
-            _ => None,
+            Value::None
+            | Value::Str(_)
+            | Value::Tuple(_)
+            | Value::List(_)
+            | Value::Dict(_)
+            | Value::Func(_, _)
+            | Value::Module(_)
+            | Value::Kind(_)
+            | Value::Exc(_, _)
+            | Value::Builtin(_) => None,
         }
     }
 }

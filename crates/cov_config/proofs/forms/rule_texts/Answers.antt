@@ -1,7 +1,7 @@
 use Rattle.std.proofs.Common.{length, ◌==◌, ap, sym, ◌∙◌, option_map, string_bytes}
 use Rattle.std.specs.List.{list_any}
 use Rattle.toml.specs.View.{view}
-use Rattle.cov_forms.specs.Forms.{is_empty}
+use Rattle.cov_file_names.specs.Forms.{is_empty}
 use Rattle.cov_config.specs.Plain.{texts_view}
 use Rattle.cov_config.proofs.TextLists.{rule_texts-of}
 use Rattle.cov_config.proofs.forms.rule_texts.Goals as goal

@@ -1,7 +1,7 @@
 use Rattle.std.proofs.Common.{◌≡◌, ◌++◌, ◌∷◌, [], List, ap, sym, ◌∙◌, option_map, Some, None, cond, codes, Err, Vec, Global, String, string_bytes}
 use Rattle.std.proofs.lemmas.List.{map_push}
 use Rattle.toml.specs.View.{view, members_view}
-use Rattle.cov_forms.specs.Forms.{Text}
+use Rattle.cov_file_names.specs.Forms.{Text}
 use Rattle.cov_config.specs.Forms.{rule_texts}
 use Rattle.cov_config.specs.Settings.{key_name, in_order, rules_in}
 use Rattle.cov_config.specs.Plain.{rules_view, texts_view}

@@ -1,6 +1,6 @@
 use Rattle.std.proofs.Common.{List, ap, refl, map, string_bytes}
 use Rattle.cov_config.specs.Plain.{rules_view}
-use Rattle.cov_forms.specs.Forms.{Text}
+use Rattle.cov_file_names.specs.Forms.{Text}
 use Rattle.cov_programs.specs.Programs.{bind}
 use Rattle.cov_programs.proofs.Composing.{followed-so, goes-on}
 use Rattle.cov_programs.proofs.Each.{then-open}

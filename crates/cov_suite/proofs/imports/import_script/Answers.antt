@@ -5,7 +5,7 @@ use Rattle.std.proofs.Common.{◌≡◌, ap, ◌∙◌}
 use Rattle.cov_measure_laws.proofs.Leaving.{as-before, same-list}
 use Rattle.py_code.specs.Loaded.{modules_of}
 use Rattle.py_code.specs.Programs.{first_world}
-use Rattle.py_store.specs.Stores.{words_of, world_of}
+use Rattle.py_world.specs.Stores.{words_of, world_of}
 use Rattle.cov_suite.proofs.Recording.{import-is, import-plan}
 use Rattle.cov_suite.proofs.imports.import_script.Goals as goal
 

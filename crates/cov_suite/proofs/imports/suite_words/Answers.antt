@@ -1,6 +1,6 @@
 use Rattle.std.proofs.Common.{[], ◌∷◌, ◌++◌, ap, ◌∙◌}
 use Rattle.std.specs.Str.{chars}
-use Rattle.py_store.specs.Stores.{words_of}
+use Rattle.py_world.specs.Stores.{words_of}
 use Rattle.cov_suite.proofs.imports.suite_words.Goals as goal
 
 pub returns : goal.returns

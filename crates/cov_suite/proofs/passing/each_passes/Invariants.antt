@@ -2,7 +2,7 @@ use Rattle.std.proofs.Common.{◌≡◌, true, take}
 use Rattle.std.specs.List.{list_all}
 use Rattle.cov_suite.specs.Passing.{passes_in_code}
 use Rattle.py_code.specs.Loaded.{modules_of}
-use Rattle.py_store.specs.Stores.{world_of}
+use Rattle.py_world.specs.Stores.{world_of}
 use Rattle.cov_suite.proofs.passing.each_passes.Given as goal
 
 abbrev pub invariant-loop-name : goal.invariant-loop-name

@@ -1,6 +1,6 @@
 use Rattle.std.proofs.Common.{◌∙◌}
 use Rattle.py_code.specs.Loaded.{modules_of}
-use Rattle.py_store.specs.Stores.{world_of}
+use Rattle.py_world.specs.Stores.{world_of}
 use Rattle.cov_suite.proofs.Recording.{import-ran}
 use Rattle.cov_suite.proofs.runs.run_script.Goals as goal
 

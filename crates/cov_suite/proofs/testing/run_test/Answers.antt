@@ -4,7 +4,7 @@ use Rattle.cov_data.specs.DataSet.{DataSet}
 use Rattle.cov_recorder.specs.States.{state_of}
 use Rattle.cov_measure_laws.proofs.Leaving.{as-before, same-list}
 use Rattle.py_code.specs.Loaded.{modules_of}
-use Rattle.py_store.specs.Stores.{world_of}
+use Rattle.py_world.specs.Stores.{world_of}
 use Rattle.cov_suite.proofs.Recording.{test-is, test-plan}
 use Rattle.cov_suite.proofs.testing.run_test.Goals as goal
 

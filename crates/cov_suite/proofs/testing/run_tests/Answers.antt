@@ -3,7 +3,7 @@ use Rattle.cov_data.specs.DataSet.{DataSet, union}
 use Rattle.cov_measure_laws.proofs.Leaving.{as-before, one-after}
 use Rattle.cov_recorder.specs.Plan.{Plan}
 use Rattle.py_code.specs.Loaded.{modules_of}
-use Rattle.py_store.specs.Stores.{world_of}
+use Rattle.py_world.specs.Stores.{world_of}
 use Rattle.cov_suite.specs.Merging.{merged}
 use Rattle.cov_suite.specs.Recorded.{WasRecorded, AllTests}
 use Rattle.cov_suite.specs.Results.{result_of_code}

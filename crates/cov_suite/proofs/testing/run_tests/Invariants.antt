@@ -1,7 +1,7 @@
 use Rattle.std.proofs.Common.{◌≡◌, map, take}
 use Rattle.cov_measure_laws.specs.Leaving.{AreLeft}
 use Rattle.py_code.specs.Loaded.{modules_of}
-use Rattle.py_store.specs.Stores.{world_of}
+use Rattle.py_world.specs.Stores.{world_of}
 use Rattle.cov_suite.specs.Recorded.{AllTests}
 use Rattle.cov_suite.specs.Results.{result_of_code}
 use Rattle.cov_suite.specs.Views.{test_view, reached_lines}

@@ -1,7 +1,7 @@
 use Rattle.std.proofs.Common.{rules, map, ap, ◌∙◌}
 use Rattle.std.proofs.lemmas.Grind.{common_steps}
 use Rattle.std.proofs.Common.{arith}
-use Rattle.py_store.specs.Values.{plain_option}
+use Rattle.py_world.specs.Values.{plain_option}
 use Rattle.py_instructions.proofs.Taken.{map-reverse}
 use Rattle.py_instructions.proofs.slots.set_slots.Goals as goal
 

@@ -1,7 +1,7 @@
 use Rattle.std.proofs.Common.{◌≡◌, ◌++◌, Some, length, map}
 use Rattle.std.specs.Prelude.{reverse}
 use Rattle.py_value.specs.View.{plains}
-use Rattle.py_store.specs.Values.{plain_option}
+use Rattle.py_world.specs.Values.{plain_option}
 use Rattle.py_instructions.proofs.slots.set_slots.Given as goal
 
 abbrev pub invariant-loop-value : goal.invariant-loop-value

@@ -10,7 +10,7 @@ use Rattle.py_code.specs.Slots.{by_slots}
 use Rattle.py_instructions.specs.View.{effects_of}
 use Rattle.py_machine.specs.Runs.{request}
 use Rattle.py_machine.specs.Told.{TakesSome}
-use Rattle.py_store.specs.Stores.{world_of}
+use Rattle.py_world.specs.Stores.{world_of}
 use Rattle.py_machine.proofs.Errs.{if_fault}
 use Rattle.py_machine.proofs.AtOnce.{ran_as, reach_is}
 use Rattle.py_machine.proofs.Fitted.{call_fits}

@@ -9,7 +9,7 @@ use Rattle.py_code.specs.Machine.{outermost, follows}
 use Rattle.py_code.specs.Programs.{script}
 use Rattle.py_code.specs.Slots.{by_slots}
 use Rattle.py_instructions.specs.View.{effects_of}
-use Rattle.py_store.specs.Stores.{world_of}
+use Rattle.py_world.specs.Stores.{world_of}
 use Rattle.py_machine.proofs.Errs.{if_err, if_fault, memory_not_read, memory_not_write, passed}
 use Rattle.py_machine.proofs.AtOnce.{ran_as}
 use Rattle.py_machine.proofs.Fitted.{run_fits}

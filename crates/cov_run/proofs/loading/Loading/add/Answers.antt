@@ -5,8 +5,8 @@ use Rattle.cov_run.specs.State.{Holds}
 use Rattle.cov_run.proofs.Answering.{held}
 use Rattle.cov_run.proofs.loading.Loading.add.Goals as goal
 
-pub returns-then-len-ge-MAX_MODULES-clause-refused : goal.returns-then-len-ge-MAX_MODULES-clause-refused
-returns-then-len-ge-MAX_MODULES-clause-refused c = λ content h m. let there = held content c.args.file h in let many = c.if-len-ge-MAX_MODULES.true in let l = c.len.ensures in crowded there.0 there.1 (omega (arith, many, l)) refl
+pub returns-then-len-ge-MOST_MODULES-clause-refused : goal.returns-then-len-ge-MOST_MODULES-clause-refused
+returns-then-len-ge-MOST_MODULES-clause-refused c = λ content h m. let there = held content c.args.file h in let many = c.if-len-ge-MOST_MODULES.true in let l = c.len.ensures in crowded there.0 there.1 (omega (arith, many, l)) refl
 
 pub returns-in-Bytes-clause-refused : goal.returns-in-Bytes-clause-refused
 returns-in-Bytes-clause-refused c = λ content h.
@@ -16,6 +16,6 @@ returns-in-Bytes-clause-refused c = λ content h.
 pub returns-in-TooLarge-clause-refused : goal.returns-in-TooLarge-clause-refused
 returns-in-TooLarge-clause-refused c = λ content h m.
     let there = subst (Holds content) c.in-TooLarge.is h in
-    let few = c.if-len-ge-MAX_MODULES.false in
+    let few = c.if-len-ge-MOST_MODULES.false in
     let l = c.len.ensures in
     large there.0 (record { there = there.1; few = omega (arith, few, l) }) there.2 refl

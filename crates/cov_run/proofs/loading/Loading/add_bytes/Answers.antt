@@ -13,8 +13,8 @@ returns-in-Err-clause-refused c =
 pub returns-in-Err-clause-no_fault : goal.returns-in-Err-clause-no_fault
 returns-in-Err-clause-no_fault c = alone-no-fault c.as_str.result.now (reading_of c.in-Err.error) c.refused.result c.refused.ensures
 
-pub returns-then-total-gt-MAX_TOTAL-clause-refused : goal.returns-then-total-gt-MAX_TOTAL-clause-refused
-returns-then-total-gt-MAX_TOTAL-clause-refused c = λ m. let past = c.if-total-gt-MAX_TOTAL.true in heavy c.args.bytes.now (record { there = refl; few = c.requires.few }) c.requires.small (omega (arith, past)) refl
+pub returns-then-total-gt-MOST_TOTAL_BYTES-clause-refused : goal.returns-then-total-gt-MOST_TOTAL_BYTES-clause-refused
+returns-then-total-gt-MOST_TOTAL_BYTES-clause-refused c = λ m. let past = c.if-total-gt-MOST_TOTAL_BYTES.true in heavy c.args.bytes.now (record { there = refl; few = c.requires.few }) c.requires.small (omega (arith, past)) refl
 
 pub returns-in-Ok-push-clause-added : goal.returns-in-Ok-push-clause-added
 returns-in-Ok-push-clause-added c = grind (arith, common_steps)

@@ -3,7 +3,7 @@ use Rattle.py_value.specs.HeapView.{plain_heap}
 use Rattle.py_value.specs.View.{plain}
 use Rattle.py_builtins.specs.Making.{sliced}
 use Rattle.py_code.specs.Units.{plain_unit}
-use Rattle.py_store.specs.Values.{plain_option}
+use Rattle.py_world.specs.Values.{plain_option}
 use Rattle.py_instructions.specs.View.{seen}
 use Rattle.py_instructions.proofs.Made.{made}
 use Rattle.py_instructions.proofs.frame.State.slice.Goals as goal

@@ -1,5 +1,5 @@
 use Rattle.std.proofs.Common.{◌≡◌, ◌++◌, ◌-◌, None, map, replicate}
-use Rattle.py_store.specs.Values.{plain_option}
+use Rattle.py_world.specs.Values.{plain_option}
 use Rattle.py_instructions.proofs.slots.Slots.fresh.Given as goal
 
 abbrev pub invariant-unset : goal.invariant-unset

@@ -1,5 +1,0 @@
-use Rattle.cov_sql_rows.proofs.Idle.{idle_none}
-use Rattle.cov_sql_rows.proofs.vaults.bases_keep_data_by_name.Goals as goal
-
-pub add_base-requires : goal.add_base-requires
-add_base-requires g c = idle_none c.new-bases.result.items c.new-bases.ensures.items

@@ -1,0 +1,18 @@
+use Rattle.std.proofs.Common.{ap, ◌∙◌, ◌+◌}
+use Rattle.py_syntax.specs.View.{plain_expr}
+use Rattle.py_compile_expr.proofs.Turns.{the_number}
+use Rattle.py_compile_expr.specs.CellView.{plain_guard}
+use Rattle.py_compile_body.proofs.Rows.{five, four_more}
+use Rattle.py_compile_body.proofs.HeadForms.{for_head_node}
+use Rattle.py_compile_body.proofs.heads.put_for_head.Goals as goal
+
+pub returns-clause-cells : goal.returns-clause-cells
+returns-clause-cells c =
+    let first = c.in_ok-first.ensures ∙ ap (λ n. n + 1) (c.in_ok-again.ensures ∙ ap (λ n. n + 2) c.in_ok-at.ensures.place) in
+    five c.put-4.result _ _ _ _ _ _ _ _ _ _ _ _ c.in_ok-at.ensures.cells c.in_ok-at-2.ensures.cells c.in_ok-at-3.ensures.cells c.in_ok-at-4.ensures.cells c.put-4.ensures.cells
+    (for_head_node (plain_guard c.args.guard) c.args.at c.args.line c.args.rest c.in_ok-first.first (plain_expr c.args.items.now) first)
+
+pub returns-clause-place : goal.returns-clause-place
+returns-clause-place c =
+    the_number c.put-4.result _ _ c.put-4.ensures.place
+    (four_more _ _ _ _ c.in_ok-at-2.ensures.place c.in_ok-at-3.ensures.place c.in_ok-at-4.ensures.place ∙ ap (λ n. n + 4) c.in_ok-at.ensures.place)

@@ -1,0 +1,31 @@
+use Rattle.std.proofs.Common.{ap, ◌∙◌, arith}
+use Rattle.py_syntax.specs.View.{plain_suite, plain_opt_suite}
+use Rattle.py_compile.specs.Statements.{opt_size}
+use Rattle.py_compile.specs.Ways.{in_loop, under}
+use Rattle.py_compile_body.specs.Parts.{suite_size}
+use Rattle.py_compile_body.specs.WaysView.{plain_ways}
+use Rattle.py_compile_body.proofs.Compounds.{looped}
+use Rattle.py_compile_body.proofs.places.for_places.Goals as goal
+
+pub returns-clause-again : goal.returns-clause-again
+returns-clause-again c = let one = c.in_ok-again.ensures _ c.expr_size.ensures in omega (arith, one)
+
+pub returns-clause-rest : goal.returns-clause-rest
+returns-clause-rest c =
+    let one = c.in_ok-again.ensures _ c.expr_size.ensures in
+    let two = c.in_ok-begin.ensures _ c.target_size.ensures in
+    let three = c.in_ok-back.ensures _ c.suite_size.ensures in
+    let hand = ap (λ h. suite_size h (plain_suite c.args.body.now)) c.in_hand-handled.ensures in
+    let last = c.in_ok-rest.ensures in
+    omega (arith, one, two, three, hand, last)
+
+pub returns-clause-inside : goal.returns-clause-inside
+returns-clause-inside c =
+    let one = c.in_ok-again.ensures _ c.expr_size.ensures in
+    let two = c.in_ok-begin.ensures _ c.target_size.ensures in
+    let three = c.in_ok-back.ensures _ c.suite_size.ensures in
+    let hand = ap (λ h. suite_size h (plain_suite c.args.body.now)) c.in_hand-handled.ensures in
+    let last = c.in_ok-end.ensures _ c.opt_size.ensures in
+    let other = ap (λ h. opt_size h (plain_opt_suite c.args.orelse.now)) c.in_hand-handled.ensures in
+    looped _ (under (plain_ways c.args.ways)) 1 c.in_ok-end.end c.in_ok-back.back _ _ (c.in_loop.ensures ∙ ap (λ w. in_loop w 1 c.in_ok-end.end c.in_ok-back.back) c.in_ok-lower.ensures)
+    (omega (arith, last, other)) (omega (arith, one, two, three, hand))

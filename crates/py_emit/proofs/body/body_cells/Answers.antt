@@ -1,5 +1,0 @@
-use Rattle.py_emit.proofs.Lines.{body_by}
-use Rattle.py_emit.proofs.body.body_cells.Goals as goal
-
-pub returns : goal.returns
-returns c = body_by c.cells_of.result c.args.defs.now _ _ c.without_docstring.ensures c.cells_of.ensures

@@ -1,5 +1,0 @@
-use Rattle.py_fit.proofs.Law.{law}
-use Rattle.py_fit.proofs.code_fits.Goals as goal
-
-pub returns : goal.returns
-returns c = law c.units_are_faithful.ensures c.premises_hold.ensures

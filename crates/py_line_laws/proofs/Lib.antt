@@ -1,0 +1,10 @@
+pub mod Lengths
+pub mod Marked
+pub mod Laws
+pub mod Written
+pub mod Rising
+pub mod Texts
+pub mod Walks
+pub mod Walking
+pub mod OwnLaw
+pub mod Rows

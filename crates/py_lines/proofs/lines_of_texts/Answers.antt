@@ -1,5 +1,0 @@
-use Rattle.py_lines.proofs.Laws.{lines_law}
-use Rattle.py_lines.proofs.lines_of_texts.Goals as goal
-
-pub returns : goal.returns
-returns c = lines_law

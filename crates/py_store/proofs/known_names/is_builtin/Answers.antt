@@ -1,8 +1,0 @@
-use Rattle.std.proofs.Common.{ap, ◌∙◌}
-use Rattle.std.specs.Str.{chars}
-use Rattle.py_text.specs.Comparison.{is_same_text}
-use Rattle.py_store.proofs.Spelled.{spelled_builtin}
-use Rattle.py_store.proofs.known_names.is_builtin.Goals as goal
-
-pub returns : goal.returns
-returns c = c.is_text.ensures ∙ ap (λ s. is_same_text c.args.name.now (chars s)) c.builtin_name.ensures ∙ ap (is_same_text c.args.name.now) (spelled_builtin c.args.which)

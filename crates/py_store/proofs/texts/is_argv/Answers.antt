@@ -1,7 +1,0 @@
-use Rattle.std.proofs.Common.{ap, ◌∙◌}
-use Rattle.py_text.specs.Comparison.{is_same_text}
-use Rattle.py_store.proofs.Spelled.{spelled_argv}
-use Rattle.py_store.proofs.texts.is_argv.Goals as goal
-
-pub returns : goal.returns
-returns c = c.is_text.ensures ∙ ap (is_same_text c.args.text.now) spelled_argv

@@ -1,0 +1,7 @@
+use Rattle.std.proofs.Common.{ap, ◌∙◌}
+use Rattle.py_text.specs.Comparison.{is_same_text}
+use Rattle.py_world.proofs.Spelled.{spelled_exit}
+use Rattle.py_world.proofs.texts.is_exit.Goals as goal
+
+pub returns : goal.returns
+returns c = c.is_text.ensures ∙ ap (is_same_text c.args.text.now) spelled_exit

@@ -1,0 +1,30 @@
+-- The store of a program, as the definition has it.
+--     world_of     the world in a store
+--     words_of     the words of a program
+use Rattle.std.specs.Prelude.{ℕ, List, map, String}
+use Rattle.std.specs.declared.alloc.Global.{Global}
+use Rattle.std.specs.Str.{chars}
+use Rattle.std.specs.String.{string_bytes}
+use Rattle.py_value.specs.HeapView.{plain_heap}
+use Rattle.py_builtins.specs.World.{World}
+use Rattle.py_world.specs.declared.store.Store.{Store}
+use Rattle.py_world.specs.Globals.{names_of}
+
+-- the world in a store
+abbrev pub world_of : Store → World
+world_of s =
+    record {
+      globals = map names_of s.globals.items;
+      begun = s.begun.items;
+      heap = plain_heap s.heap;
+      words
+          = s.words.place;
+    }
+
+-- a word of a program, as its characters
+abbrev pub word : String Global → List ℕ
+word x = chars (string_bytes x)
+
+-- the words of a program, as their characters
+abbrev pub words_of : List (String Global) → List (List ℕ)
+words_of xs = map word xs
