@@ -1,5 +1,6 @@
-//! One session, in which one call of one object fails: each call in turn, until the session meets
-//! no fault. It is done command by command, and once more as a script.
+//! Sessions in which one call of one object fails: each call in turn, until the session meets no
+//! fault. One is done command by command, and once more as a script. Another is a script that ends
+//! in a refusal.
 
 use crate::harness::{Failing, NONE, World, shelf_of};
 use crate::sources::FIRST_RUN;
@@ -30,6 +31,38 @@ static COMMANDS: [&str; 7] = [
 ];
 
 const JOIN: &str = "combine --data-file=c";
+
+/// A file of commands: the words that do it, its lines, and how it ends where no call fails.
+struct Script {
+    words: &'static str,
+    lines: &'static [&'static str],
+    status: u8,
+    err: &'static str,
+}
+
+/// The commands as a script, and one whose last line is refused.
+static SCRIPTS: [Script; 2] = [
+    Script {
+        words: "script s.txt",
+        lines: &[
+            "run --branch a.py",
+            "run --append --branch a.py",
+            "run --data-file=e asks.py",
+            "report -m",
+            "json",
+            "combine --data-file=c",
+            "erase",
+        ],
+        status: 0,
+        err: "",
+    },
+    Script {
+        words: "script r.txt",
+        lines: &["run --branch a.py", "erase", "report"],
+        status: 1,
+        err: "coverage: no data .coverage\n",
+    },
+];
 
 /// The numbers of the calls that fail.
 static CALLS: [&[u64]; 28] = [
@@ -92,7 +125,7 @@ fn fault_of(object: Object) -> &'static str {
     }
 }
 
-/// Two programs, the commands as lines of a file, and two data that are joined.
+/// Two programs, two files of commands, and two data that are joined.
 fn world_of(alloc: Global, failing: Failing) -> Result<World, AllocError> {
     let mut lines = String::new(alloc);
     for words in &COMMANDS {
@@ -105,6 +138,7 @@ fn world_of(alloc: Global, failing: Failing) -> Result<World, AllocError> {
             ("a.py", FIRST_RUN),
             ("asks.py", "print(input())\n"),
             ("s.txt", lines.as_str()),
+            ("r.txt", "run --branch a.py\nerase\nreport\n"),
         ],
     )?;
     let mut contents = Vec::new(alloc);
@@ -166,27 +200,29 @@ fn stopped_by(rt: &impl Abort, alloc: Global, object: Object) -> Result<usize, F
     Ok(CALLS.len())
 }
 
-/// The state after so many commands.
-fn state_after(alloc: Global, count: usize) -> Result<String, Fail> {
+/// The state after so many lines of a script.
+fn state_after(alloc: Global, script: &Script, count: usize) -> Result<String, Fail> {
     let mut world = world_of(alloc, NONE)?;
-    for words in COMMANDS.iter().take(count) {
+    for words in script.lines.iter().take(count) {
         let _ = world.answer(alloc, *words, "ab\n")?;
     }
     state(alloc, &mut world)
 }
 
-/// Whether the call stops the session as a script. The answer is the object's fault then, and shelf
-/// and vault are as the lines left them whose status was written. A join that the vault stops may
-/// have saved and removed some data, and output may refuse the status of a line that was done.
+/// Whether the call stops the script. The answer is the object's fault then, and shelf and vault
+/// are as the lines left them whose status was written. A join that the vault stops may have saved
+/// and removed some data, and output may refuse the status of a line that was done.
 fn stops_script(
     rt: &impl Abort,
     alloc: Global,
+    script: &Script,
     object: Object,
     call: &'static [u64],
 ) -> Result<bool, Fail> {
     let mut world = world_of(alloc, failing(object, call))?;
-    let found = world.answer(alloc, "script s.txt", "ab\n")?;
-    if found.status == 0 {
+    let found = world.answer(alloc, script.words, "ab\n")?;
+    if found.status == script.status {
+        assert_eq!(rt; found.err.as_str(), script.err, "{}", script.words);
         return Ok(false);
     }
     assert_eq!(rt; found.status, 74);
@@ -197,82 +233,61 @@ fn stops_script(
         .lines()
         .filter(|line| line.starts_with("= "))
         .count();
-    let is_join = match COMMANDS.get(done) {
+    let is_join = match script.lines.get(done) {
         Some(words) => object == Object::Vault && *words == JOIN,
         None => false,
     };
     let after = state(alloc, &mut world)?;
-    if is_join || after.as_str() == state_after(alloc, done)?.as_str() {
+    if is_join || after.as_str() == state_after(alloc, script, done)?.as_str() {
         return Ok(true);
     }
-    let later = state_after(alloc, done.saturating_add(1))?;
+    let later = state_after(alloc, script, done.saturating_add(1))?;
     assert!(rt; object == Object::Out, "after {done} lines");
     assert_eq!(rt; after.as_str(), later.as_str(), "after {done} lines");
     Ok(true)
 }
 
 /// How many calls stop the script, one after the other.
-fn script_stopped_by(rt: &impl Abort, alloc: Global, object: Object) -> Result<usize, Fail> {
+fn script_stopped_by(
+    rt: &impl Abort,
+    alloc: Global,
+    script: &Script,
+    object: Object,
+) -> Result<usize, Fail> {
     for (at, call) in CALLS.iter().enumerate() {
-        if !stops_script(rt, alloc, object, *call)? {
+        if !stops_script(rt, alloc, script, object, *call)? {
             return Ok(at);
         }
     }
     Ok(CALLS.len())
 }
 
+/// The objects, and how many of their calls stop the session and each script.
+static COUNTS: [(Object, usize, [usize; 2]); 4] = [
+    (Object::Shelf, 13, [14, 5]),
+    (Object::Vault, 16, [16, 4]),
+    (Object::Input, 3, [3, 0]),
+    (Object::Out, 1, [11, 3]),
+];
+
+/// Each call of the session, one by one.
 #[test]
-fn calls_of_the_shelf(rt: HostRuntime) -> Result<(), Fail> {
-    let count = stopped_by(&rt, rt.alloc(), Object::Shelf)?;
-    assert!(&rt; 0 < count && count < CALLS.len(), "{count}");
+fn calls_of_a_session(rt: HostRuntime) -> Result<(), Fail> {
+    for (object, calls, _) in &COUNTS {
+        let count = stopped_by(&rt, rt.alloc(), *object)?;
+        assert_eq!(&rt; count, *calls, "{}", fault_of(*object));
+    }
     Ok(())
 }
 
+/// Each call of the scripts, one by one.
 #[test]
-fn calls_of_the_vault(rt: HostRuntime) -> Result<(), Fail> {
-    let count = stopped_by(&rt, rt.alloc(), Object::Vault)?;
-    assert!(&rt; 0 < count && count < CALLS.len(), "{count}");
-    Ok(())
-}
-
-#[test]
-fn calls_of_the_input(rt: HostRuntime) -> Result<(), Fail> {
-    let count = stopped_by(&rt, rt.alloc(), Object::Input)?;
-    assert_eq!(&rt; count, 3, "one for each byte");
-    Ok(())
-}
-
-#[test]
-fn calls_of_the_output(rt: HostRuntime) -> Result<(), Fail> {
-    let count = stopped_by(&rt, rt.alloc(), Object::Out)?;
-    assert!(&rt; 0 < count && count < CALLS.len(), "{count}");
-    Ok(())
-}
-
-#[test]
-fn calls_of_the_shelf_in_a_script(rt: HostRuntime) -> Result<(), Fail> {
-    let count = script_stopped_by(&rt, rt.alloc(), Object::Shelf)?;
-    assert!(&rt; 0 < count && count < CALLS.len(), "{count}");
-    Ok(())
-}
-
-#[test]
-fn calls_of_the_vault_in_a_script(rt: HostRuntime) -> Result<(), Fail> {
-    let count = script_stopped_by(&rt, rt.alloc(), Object::Vault)?;
-    assert!(&rt; 0 < count && count < CALLS.len(), "{count}");
-    Ok(())
-}
-
-#[test]
-fn calls_of_the_input_in_a_script(rt: HostRuntime) -> Result<(), Fail> {
-    let count = script_stopped_by(&rt, rt.alloc(), Object::Input)?;
-    assert_eq!(&rt; count, 3, "one for each byte");
-    Ok(())
-}
-
-#[test]
-fn calls_of_the_output_in_a_script(rt: HostRuntime) -> Result<(), Fail> {
-    let count = script_stopped_by(&rt, rt.alloc(), Object::Out)?;
-    assert!(&rt; 0 < count && count < CALLS.len(), "{count}");
+fn calls_of_scripts(rt: HostRuntime) -> Result<(), Fail> {
+    for (object, _, calls) in &COUNTS {
+        for (script, wanted) in SCRIPTS.iter().zip(calls) {
+            let count = script_stopped_by(&rt, rt.alloc(), script, *object)?;
+            assert_eq!(&rt; count, *wanted, "{}: {}", script.words, fault_of(*object));
+        }
+    }
     Ok(())
 }
