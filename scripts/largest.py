@@ -74,7 +74,7 @@ SLOW = r"(?:[a-q]{1,9}[b-z]?){1,9}[0-9]{3}[^#]" + "#"
 INPUTS = [
     ("1 MB in one line, statements", {"a.py": "x=1" + ";x=1" * 262143}, [(f"arcs {ALL} a.py", 0), ("run --branch a.py", 0), ("report -m", 0), ("annotate a.py", 0)]),
     ("1 MB in one line, a list", {"a.py": "x = [" + line("0,", FILE - 8) + "]"}, [("run --branch a.py", 0), ("report -m", 0)]),
-    ("1 MB in one line, a sum", {"a.py": "x = 0" + line("+1", 398)}, [("run --branch a.py", 0)]),
+    ("a sum of 200 numbers", {"a.py": "x = 0" + line("+1", 398)}, [("run --branch a.py", 0)]),
     ("1 MB in one line, an f-string", {"a.py": "x = f'" + line("{1}", FILE - 9) + "'"}, [("run --branch a.py", 0), ("report", 0)]),
     ("1 MB in one line, a dict", {"a.py": "x = {" + line("1:2,", FILE - 8) + "}"}, [("run --branch a.py", 0)]),
     ("1 MB of brackets that aren't closed", {"a.py": "(" * FILE}, [("run --branch a.py", 1)]),
@@ -97,9 +97,6 @@ INPUTS = [
     ("a hook with 200 labels of 1,000,000 characters", {"a.py": MANY_CALLS, "h.py": OTHERS}, [("run --branch --hook=h.py:label a.py", 0), ("report", 0)]),
     ("9,000 calls under one label of 1,000,000 characters", {"a.py": LABELLED, "h.py": LONG}, [("run --branch --hook=h.py:label a.py", 0)]),
     ("`t == t` of a tuple doubled 20 times", {"a.py": "t = ()\nfor i in range(20): t = (t, t)\nprint(t == t)\n"}, [("arcs a.py", 0)]),
-    ("`t == t` of a tuple doubled 190 times", {"a.py": "t = ()\nfor i in range(190): t = (t, t)\nprint(t == t)\n"}, [("arcs a.py", 0)]),
-    ("a tuple doubled 190 times as a key", {"a.py": "t = u = ()\nfor i in range(190):\n    t = (t, t)\n    u = (u, u)\nd = {t: 1}\nprint(d[u])\n"}, [("arcs a.py", 0)]),
-    ("a list doubled 190 times", {"a.py": "t = []\nu = []\nfor i in range(190):\n    t = [t, t]\n    u = [u, u]\nprint(t == u)\n"}, [("arcs a.py", 0)]),
     ("a long text in a long text", {"a.py": "s = 'a' * 1048576\nprint('a' * 524288 + 'b' in s)\n"}, [("arcs a.py", 0)]),
     ("a long text split at a long text", {"a.py": "s = 'a' * 1048576\nprint(len(s.split('a' * 1000 + 'b')), len(s.split('a')))\n"}, [("arcs a.py", 0)]),
     ("1,000,000 steps that each make a list of 1,000 items", {"a.py": "x = [0] * 1000\nwhile 1: y = x + x\n"}, [("arcs a.py", None)]),
@@ -108,7 +105,7 @@ INPUTS = [
     ("a script of 65,535 lines", {"s.txt": "erase\n" * 65535}, [("script s.txt", 0)]),
     ("settings of 1 MB", {"pyproject.toml": "[tool.coverage.run]\nx = [" + line("[],", FILE - 40) + "]\n"}, [("erase", 0)]),
     ("settings of 1 MB, a long text", {"pyproject.toml": "[tool.coverage.run]\ncontext = '" + "c" * (FILE - 40) + "'\n", "a.py": "x = 1\n" * 100}, [("run --branch a.py", 0), ("run -a --branch a.py", 0), ("report", 0)]),
-    ("65,535 rules of paths", {"pyproject.toml": "[tool.coverage.paths]\n" + "".join(f"a{at} = ['b', 'c']\n" for at in range(50000)), "a.py": "x = 1\n"}, [("run --branch --data-file=.coverage.1 a.py", 0), ("combine", 0)]),
+    ("50,000 rules of paths", {"pyproject.toml": "[tool.coverage.paths]\n" + "".join(f"a{at} = ['b', 'c']\n" for at in range(50000)), "a.py": "x = 1\n"}, [("run --branch --data-file=.coverage.1 a.py", 0), ("combine", 0)]),
 ]
 
 

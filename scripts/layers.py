@@ -1,19 +1,22 @@
 #!/usr/bin/env python3
-"""Draws the crates as a picture of layers, from crates.txt.
+"""Draws the crates as a picture of layers, from crates.txt, and says what each crate stands on.
 
     layers.py            prints the picture
-    layers.py --write    puts it between the two marks of docs/ARCHITECTURE.md
-    layers.py --check    ends with status 1 where the picture there is another one
+    layers.py --write    puts it between the two marks of docs/ARCHITECTURE.md, and fills the column *Stands on* there
+    layers.py --check    ends with status 1 where one of the two is another there, or a crate has no row
 
 A layer holds the groups of crates.txt (its comment lines) that stand on nothing but groups below. Under each group stand
-its crates, and the groups that it stands on and that no other of these brings along.
+its crates, and the groups that it stands on and that no other of these brings along. *Stands on* lists crates in the same way: those of
+crates.txt that no other listed one brings along.
 """
 import os
+import re
 import sys
 
 TOP = os.path.dirname(os.path.dirname(os.path.abspath(__file__)))
 FILE = f"{TOP}/docs/ARCHITECTURE.md"
 BEGIN, END = "<!-- layers: begin -->\n", "<!-- layers: end -->\n"
+ROW = re.compile(r"\| `(\w+)` \|.*\| built \|")
 
 
 def read():
@@ -88,6 +91,27 @@ def picture():
     return "\n".join([*out, "```"]) + "\n"
 
 
+def nearest(crate, stands_on):
+    """The crates on which one stands and that no other of these brings along, in the order of its line."""
+    inside = {it: [o for o in stands_on[it] if o in stands_on] for it in stands_on}
+    return [it for it in inside[crate] if not any(it in below(o, inside) for o in inside[crate])]
+
+
+def with_column(text):
+    """The rows of crates with their column filled, and whether each crate has a row."""
+    stands_on = read()[1]
+    lines, told = [], set()
+    for line in text.splitlines():
+        crate = ROW.fullmatch(line)
+        if crate and crate[1] in stands_on:
+            told.add(crate[1])
+            cells = line.split(" | ")
+            cells[-2] = ", ".join(f"`{it}`" for it in nearest(crate[1], stands_on)) or "nothing"
+            line = " | ".join(cells)
+        lines.append(line)
+    return "\n".join(lines) + "\n", told == set(stands_on)
+
+
 def main():
     if len(sys.argv) == 1:
         print(picture(), end="")
@@ -95,11 +119,11 @@ def main():
     text = open(FILE).read()
     front, rest = text.split(BEGIN)
     back = rest.split(END)[1]
-    new = front + BEGIN + picture() + END + back
+    new, is_whole = with_column(front + BEGIN + picture() + END + back)
     if sys.argv[1] == "--write":
         open(FILE, "w").write(new)
         return 0
-    return int(new != text)
+    return int(new != text or not is_whole)
 
 
 sys.exit(main())
