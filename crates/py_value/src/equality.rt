@@ -1,6 +1,6 @@
 // Equality of values: a walk from left to right.
 
-ghost use Rattle.std.specs.Prelude.{◌≡◌, map, ◌&&◌};
+ghost use Rattle.std.specs.Prelude.{◌≡◌, map, ◌&&◌, ◌+◌, ◌<◌, ◌≤◌, IfOk, OnOk, OnErr};
 ghost use Rattle.py_value.specs.View.{plain, plains, place_of};
 ghost use Rattle.std.specs.Option.{option_map};
 ghost use Rattle.py_value.specs.HeapView.{plain_heap};
@@ -13,24 +13,59 @@ use crate::heap::Heap;
 use crate::pairs::Pair;
 use crate::shared::Argument;
 use crate::value::{Addr, ModId, Value};
+use py_text::NoMemory;
+use std::alloc::AllocError;
 
 /// Whether two values are equal, or `TooDeep` where more than `levels` stand inside each other.
+/// `remaining` pairs of values may still be compared: where that is too few, it answers want of
+/// memory.
 #[cycle(equal)]
-pub fn equal(levels: u32, left: &Value, right: &Value, heap: &Heap) -> Result<bool, Cause>
-    ensures { result
-        ≡ equal_within levels (plain_heap heap.now) (plain left.now) (plain right.now) }
+pub fn equal(
+    levels: u32,
+    left: &Value,
+    right: &Value,
+    heap: &Heap,
+    remaining: &mut u64,
+) -> Result<Result<bool, Cause>, NoMemory>
+    ensures answer { IfOk result (λ answer.
+        answer ≡ equal_within levels (plain_heap heap.now) (plain left.now) (plain right.now)) }
+    ensures counted { OnOk result (remaining.new < remaining.old) }
+    ensures used_up { OnErr result (remaining.new ≡ 0) }
 {
+    count_pair(remaining)?;
     if levels == 0 {
-        return Err(Cause::TooDeep);
+        return Ok(Err(Cause::TooDeep));
     }
-    equal_inside(levels - 1, left, right, heap)
+    equal_inside(levels - 1, left, right, heap, remaining)
+}
+
+/// Takes one from how many pairs may still be compared.
+#[inline]
+pub fn count_pair(remaining: &mut u64) -> Result<(), NoMemory>
+    ensures ok { OnOk result (remaining.old ≡ remaining.new + 1) }
+    ensures none_left { OnErr result (remaining.old ≡ 0) }
+    ensures used_up { OnErr result (remaining.new ≡ 0) }
+{
+    if *remaining == 0 {
+        return Err(AllocError);
+    }
+    *remaining -= 1;
+    Ok(())
 }
 
 #[cycle(equal)]
-fn equal_inside(levels: u32, left: &Value, right: &Value, heap: &Heap) -> Result<bool, Cause>
-    ensures { result
-        ≡ equal_step (equal_within levels (plain_heap heap.now)) (plain_heap heap.now)
-        (plain left.now) (plain right.now) }
+fn equal_inside(
+    levels: u32,
+    left: &Value,
+    right: &Value,
+    heap: &Heap,
+    remaining: &mut u64,
+) -> Result<Result<bool, Cause>, NoMemory>
+    ensures answer { IfOk result (λ answer.
+        answer ≡ equal_step (equal_within levels (plain_heap heap.now)) (plain_heap heap.now)
+        (plain left.now) (plain right.now)) }
+    ensures counted { OnOk result (remaining.new ≤ remaining.old) }
+    ensures used_up { OnErr result (remaining.new ≡ 0) }
 {
     match left {
         Value::None
@@ -39,96 +74,120 @@ fn equal_inside(levels: u32, left: &Value, right: &Value, heap: &Heap) -> Result
         | Value::Func(_, _)
         | Value::Module(_)
         | Value::Kind(_)
-        | Value::Builtin(_) => Ok(is_same_atom(left, right)),
+        | Value::Builtin(_) => Ok(Ok(is_same_atom(left, right))),
         Value::Str(s) => {
             if let Value::Str(t) = right {
-                Ok(s.is_same(t))
+                Ok(Ok(s.is_same(t)))
             } else {
-                Ok(false)
+                Ok(Ok(false))
             }
         }
         Value::Tuple(items) => {
             if let Value::Tuple(others) = right {
-                equal_items(levels, items.as_slice(), others.as_slice(), heap)
+                equal_items(levels, items.as_slice(), others.as_slice(), heap, remaining)
             } else {
-                Ok(false)
+                Ok(Ok(false))
             }
         }
         Value::List(a) => {
             if let Value::List(b) = right {
-                equal_items(levels, heap.items(*a), heap.items(*b), heap)
+                equal_items(levels, heap.items(*a), heap.items(*b), heap, remaining)
             } else {
-                Ok(false)
+                Ok(Ok(false))
             }
         }
         Value::Dict(a) => {
             if let Value::Dict(b) = right {
-                equal_dicts(levels, heap.pairs(*a), *b, heap)
+                equal_dicts(levels, heap.pairs(*a), *b, heap, remaining)
             } else {
-                Ok(false)
+                Ok(Ok(false))
             }
         }
         Value::Exc(k, a) => {
             if let Value::Exc(l, b) = right
                 && k.is_same(*l)
             {
-                equal_arguments(levels, a, b, heap)
+                equal_arguments(levels, a, b, heap, remaining)
             } else {
-                Ok(false)
+                Ok(Ok(false))
             }
         }
     }
 }
 
 #[cycle(equal)]
-fn equal_items(levels: u32, left: &[Value], right: &[Value], heap: &Heap) -> Result<bool, Cause>
-    ensures { result
-        ≡ are_equal (equal_within levels (plain_heap heap.now)) (plains left.now)
-        (plains right.now) }
+fn equal_items(
+    levels: u32,
+    left: &[Value],
+    right: &[Value],
+    heap: &Heap,
+    remaining: &mut u64,
+) -> Result<Result<bool, Cause>, NoMemory>
+    ensures answer { IfOk result (λ answer.
+        answer ≡ are_equal (equal_within levels (plain_heap heap.now)) (plains left.now)
+        (plains right.now)) }
+    ensures counted { OnOk result (remaining.new ≤ remaining.old) }
+    ensures used_up { OnErr result (remaining.new ≡ 0) }
 {
     if left.len() != right.len() {
-        return Ok(false);
+        return Ok(Ok(false));
     }
     for i in 0..left.len() {
-        match equal(levels, &left[i], &right[i], heap) {
+        match equal(levels, &left[i], &right[i], heap, remaining)? {
             Ok(true) => {}
-            Ok(false) => return Ok(false),
-            Err(cause) => return Err(cause),
+            Ok(false) => return Ok(Ok(false)),
+            Err(cause) => return Ok(Err(cause)),
         }
     }
-    Ok(true)
+    Ok(Ok(true))
 }
 
 #[cycle(equal)]
-fn equal_dicts(levels: u32, left: &[Pair], right: Addr, heap: &Heap) -> Result<bool, Cause>
-    ensures { result
-        ≡ are_equal_dicts (equal_within levels (plain_heap heap.now)) (map plain_pair left.now)
-        (dict_pairs (plain_heap heap.now) right.place) }
+fn equal_dicts(
+    levels: u32,
+    left: &[Pair],
+    right: Addr,
+    heap: &Heap,
+    remaining: &mut u64,
+) -> Result<Result<bool, Cause>, NoMemory>
+    ensures answer { IfOk result (λ answer.
+        answer ≡ are_equal_dicts (equal_within levels (plain_heap heap.now))
+        (map plain_pair left.now) (dict_pairs (plain_heap heap.now) right.place)) }
+    ensures counted { OnOk result (remaining.new ≤ remaining.old) }
+    ensures used_up { OnErr result (remaining.new ≡ 0) }
 {
     if left.len() == heap.pairs(right).len() {
-        equal_pairs(levels, left, right, heap)
+        equal_pairs(levels, left, right, heap, remaining)
     } else {
-        Ok(false)
+        Ok(Ok(false))
     }
 }
 
 #[cycle(equal)]
-fn equal_pairs(levels: u32, left: &[Pair], right: Addr, heap: &Heap) -> Result<bool, Cause>
-    ensures { result
-        ≡ are_equal_pairs (equal_within levels (plain_heap heap.now)) (map plain_pair left.now)
-        (dict_pairs (plain_heap heap.now) right.place) }
+fn equal_pairs(
+    levels: u32,
+    left: &[Pair],
+    right: Addr,
+    heap: &Heap,
+    remaining: &mut u64,
+) -> Result<Result<bool, Cause>, NoMemory>
+    ensures answer { IfOk result (λ answer.
+        answer ≡ are_equal_pairs (equal_within levels (plain_heap heap.now))
+        (map plain_pair left.now) (dict_pairs (plain_heap heap.now) right.place)) }
+    ensures counted { OnOk result (remaining.new ≤ remaining.old) }
+    ensures used_up { OnErr result (remaining.new ≡ 0) }
 {
     for i in 0..left.len() {
         match heap.value_of(right, &left[i].key) {
-            None => return Ok(false),
-            Some(other) => match equal(levels, &left[i].value, other, heap) {
+            None => return Ok(Ok(false)),
+            Some(other) => match equal(levels, &left[i].value, other, heap, remaining)? {
                 Ok(true) => {}
-                Ok(false) => return Ok(false),
-                Err(cause) => return Err(cause),
+                Ok(false) => return Ok(Ok(false)),
+                Err(cause) => return Ok(Err(cause)),
             },
         }
     }
-    Ok(true)
+    Ok(Ok(true))
 }
 
 #[cycle(equal)]
@@ -137,18 +196,22 @@ fn equal_arguments(
     left: &Argument,
     right: &Argument,
     heap: &Heap,
-) -> Result<bool, Cause>
-    ensures { result
-        ≡ are_equal_arguments (equal_within levels (plain_heap heap.now)) left.now right.now }
+    remaining: &mut u64,
+) -> Result<Result<bool, Cause>, NoMemory>
+    ensures answer { IfOk result (λ answer.
+        answer ≡ are_equal_arguments (equal_within levels (plain_heap heap.now)) left.now
+        right.now) }
+    ensures counted { OnOk result (remaining.new ≤ remaining.old) }
+    ensures used_up { OnErr result (remaining.new ≡ 0) }
 {
     match left.value() {
         None => match right.value() {
-            None => Ok(true),
-            Some(_) => Ok(false),
+            None => Ok(Ok(true)),
+            Some(_) => Ok(Ok(false)),
         },
         Some(a) => match right.value() {
-            None => Ok(false),
-            Some(b) => equal(levels, a, b, heap),
+            None => Ok(Ok(false)),
+            Some(b) => equal(levels, a, b, heap, remaining),
         },
     }
 }

@@ -9,3 +9,7 @@ pub const MOST_LEVELS: u32 = 200;
 
 /// The deepest that tuples and arguments of exceptions stand directly in each other.
 pub const MOST_NESTED: u8 = 200;
+
+/// The most pairs of values that one comparison goes through: beyond that it answers want of
+/// memory.
+pub const MOST_COMPARED: u64 = 268_435_456;

@@ -1,4 +1,4 @@
-use Rattle.std.proofs.Common.{◌≡◌, ◌+◌, ◌*◌, drop, map}
+use Rattle.std.proofs.Common.{◌≡◌, ◌≤◌, ◌+◌, ◌*◌, drop, map}
 use Rattle.py_value.specs.View.{plains}
 use Rattle.py_value.specs.HeapView.{plain_heap}
 use Rattle.py_value.specs.Pairs.{plain_pair}
@@ -25,11 +25,15 @@ abbrev pub decreases-equal_arguments : goal.decreases-equal_arguments
 decreases-equal_arguments l = 4 * l.levels + 1
 
 abbrev pub invariant-equal_items-loop-i : goal.invariant-equal_items-loop-i
-invariant-equal_items-loop-i l =
-    are_equal_items (equal_within l.levels (plain_heap l.heap)) (plains (drop l.i l.left)) (plains (drop l.i l.right))
-    ≡ are_equal_items (equal_within l.levels (plain_heap l.heap)) (plains l.left) (plains l.right)
+invariant-equal_items-loop-i l = record {
+  answer : are_equal_items (equal_within l.levels (plain_heap l.heap)) (plains (drop l.i l.left)) (plains (drop l.i l.right))
+      ≡ are_equal_items (equal_within l.levels (plain_heap l.heap)) (plains l.left) (plains l.right);
+  counted : l.remaining ≤ l.fn.remaining;
+}
 
 abbrev pub invariant-equal_pairs-loop-i : goal.invariant-equal_pairs-loop-i
-invariant-equal_pairs-loop-i l =
-    are_equal_pairs (equal_within l.levels (plain_heap l.heap)) (map plain_pair (drop l.i l.left)) (dict_pairs (plain_heap l.heap) l.right.place)
-    ≡ are_equal_pairs (equal_within l.levels (plain_heap l.heap)) (map plain_pair l.left) (dict_pairs (plain_heap l.heap) l.right.place)
+invariant-equal_pairs-loop-i l = record {
+  answer : are_equal_pairs (equal_within l.levels (plain_heap l.heap)) (map plain_pair (drop l.i l.left)) (dict_pairs (plain_heap l.heap) l.right.place)
+      ≡ are_equal_pairs (equal_within l.levels (plain_heap l.heap)) (map plain_pair l.left) (dict_pairs (plain_heap l.heap) l.right.place);
+  counted : l.remaining ≤ l.fn.remaining;
+}

@@ -1,4 +1,4 @@
-use Rattle.std.proofs.Common.{◌≡◌, ◌+◌, ◌*◌, drop}
+use Rattle.std.proofs.Common.{◌≡◌, ◌≤◌, ◌+◌, ◌*◌, drop}
 use Rattle.py_value.specs.View.{plains}
 use Rattle.py_value.specs.HeapView.{plain_heap}
 use Rattle.py_value.specs.Comparison.{equal_within, order_within, order_of_items}
@@ -14,6 +14,8 @@ abbrev pub decreases-order_items : goal.decreases-order_items
 decreases-order_items l = 3 * l.levels + 1
 
 abbrev pub invariant-order_items-loop-i : goal.invariant-order_items-loop-i
-invariant-order_items-loop-i l =
-    order_of_items (equal_within l.levels (plain_heap l.heap)) (order_within l.levels (plain_heap l.heap)) (plains (drop l.i l.left)) (plains (drop l.i l.right))
-    ≡ order_of_items (equal_within l.levels (plain_heap l.heap)) (order_within l.levels (plain_heap l.heap)) (plains l.left) (plains l.right)
+invariant-order_items-loop-i l = record {
+  answer : order_of_items (equal_within l.levels (plain_heap l.heap)) (order_within l.levels (plain_heap l.heap)) (plains (drop l.i l.left)) (plains (drop l.i l.right))
+      ≡ order_of_items (equal_within l.levels (plain_heap l.heap)) (order_within l.levels (plain_heap l.heap)) (plains l.left) (plains l.right);
+  counted : l.remaining ≤ l.fn.remaining;
+}
