@@ -5,5 +5,6 @@ pub mod Walk
 pub mod Texts
 pub mod Makers
 pub mod Refusals
+pub mod Flags
 pub mod Views
 pub mod Sources

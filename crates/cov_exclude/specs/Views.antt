@@ -1,9 +1,6 @@
 -- What the types of the code stand for.
-use Rattle.std.specs.Prelude.{◌≡◌, ℕ, List, map}
+use Rattle.std.specs.Prelude.{ℕ, List, map}
 use Rattle.std.specs.Borrow.{Bor}
-use Rattle.regex.specs.Strings.{regex_pattern, matcher_pattern}
-use Rattle.regex.specs.declared.string.regex.Regex.{Regex}
-use Rattle.regex.specs.declared.string.matcher.Matcher.{Matcher}
 use Rattle.cov_exclude.specs.Touched.{touches}
 use Rattle.cov_exclude.specs.Walk as walk
 use Rattle.cov_exclude.specs.declared.walk.Rule.{Rule}
@@ -15,7 +12,3 @@ rule_view rule = record { touched = touches rule.matched.now; spreads = rule.spr
 -- texts in memory as such
 abbrev pub texts_view : List (Bor (List ℕ)) → List (List ℕ)
 texts_view texts = map (λ text. text.now) texts
-
--- these matchers search for these patterns
-abbrev pub FindAlike : List Matcher → List Regex → Type 0
-FindAlike matchers made = map matcher_pattern matchers ≡ map regex_pattern made

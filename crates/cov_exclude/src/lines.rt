@@ -1,10 +1,11 @@
 //! The physical lines of a text that patterns match.
-ghost use Rattle.std.specs.Prelude.{◌≡◌, ◌++◌, IfOk, OnOk};
+ghost use Rattle.std.specs.Prelude.{◌≡◌, ◌++◌, ◌||◌, length, map, IfOk, OnOk};
 ghost use Rattle.std.specs.Str.Lines.{lines};
 ghost use Rattle.regex.specs.Strings.{regex_pattern, regex_source, matcher_pattern};
+ghost use Rattle.cov_exclude.specs.Flags.{flagged_by, flagged_from};
 ghost use Rattle.cov_exclude.specs.Texts.{IsPlainlyMade, ArePlainlyMade, texts_of, is_matched_by, is_matched, matched_lines};
-ghost use Rattle.cov_exclude.specs.Touched.{mark_if, numbers_from};
-ghost use Rattle.cov_exclude.specs.Views.{texts_view, FindAlike};
+ghost use Rattle.cov_exclude.specs.Touched.{mark_if};
+ghost use Rattle.cov_exclude.specs.Views.{texts_view};
 
 use crate::matched::Matched;
 use py_text::NoMemory;
@@ -21,8 +22,8 @@ pub(crate) fn matched_lines(
     ensures { IfOk result (λ matched. matched ≡ matched_lines (texts_of made.now) source.now) }
 {
     let texts = texts(alloc, source)?;
-    let mut matchers = matchers(alloc, made)?;
-    let numbers = numbers(alloc, &mut matchers, made, &texts)?;
+    let flags = flags(alloc, made, &texts)?;
+    let numbers = numbers(alloc, &flags)?;
     Ok(Matched::new(numbers))
 }
 
@@ -32,32 +33,55 @@ fn texts<'s>(alloc: Global, source: &'s str) -> Result<Vec<&'s str>, NoMemory>
     source.lines().collect(alloc)
 }
 
-fn matchers<'p>(alloc: Global, made: &'p [Regex]) -> Result<Vec<Matcher<'p>>, NoMemory>
-    ensures { IfOk result (λ matchers. FindAlike matchers.items made.now) }
+/// Whether one of the patterns matches each text. The patterns take turns, since the matcher of one
+/// may take a hundred megabytes.
+fn flags(alloc: Global, made: &[Regex], texts: &[&str]) -> Result<Vec<bool>, NoMemory>
+    requires { ArePlainlyMade made.now }
+    ensures { IfOk result (λ flags.
+        flags.items ≡ map (is_matched (texts_of made.now)) (texts_view texts.now)) }
 {
-    let mut matchers = Vec::new(alloc);
-    for at in 0..made.len() {
-        matchers.push(made[at].matcher(alloc)?)?;
+    let mut flags = vec![in alloc; false; texts.len()]?;
+    for regex in made {
+        flag_texts(alloc, &mut flags, regex, texts)?;
     }
-    Ok(matchers)
+    Ok(flags)
 }
 
-/// The numbers of the texts that one of the patterns matches, counted from 1.
-fn numbers(
+/// Sets the flags of the texts that a pattern matches. A text whose flag is set isn't searched.
+fn flag_texts(
     alloc: Global,
-    matchers: &mut [Matcher<'_>],
-    made: &[Regex],
+    flags: &mut [bool],
+    regex: &Regex,
     texts: &[&str],
-) -> Result<Vec<usize>, NoMemory>
-    requires alike { FindAlike matchers.old made.now }
-    requires made { ArePlainlyMade made.now }
-    ensures { IfOk result (λ numbers.
-        numbers.items ≡ numbers_from (is_matched (texts_of made.now)) 1 (texts_view texts.now)) }
+) -> Result<(), NoMemory>
+    requires lengths { length flags.old ≡ length texts.now }
+    requires made { IsPlainlyMade regex.now }
+    ensures { OnOk result
+        (flags.new ≡ flagged_by (regex_source regex.now) flags.old (texts_view texts.now)) }
+{
+    let mut matcher = regex.matcher(alloc)?;
+    for at in 0..texts.len() {
+        flags[at] = flags[at] || matches(&mut matcher, regex, texts[at]);
+    }
+    Ok(())
+}
+
+fn matches(matcher: &mut Matcher<'_>, regex: &Regex, line: &str) -> bool
+    requires alike { matcher_pattern matcher.old ≡ regex_pattern regex.now }
+    requires made { IsPlainlyMade regex.now }
+    ensures found { result ≡ is_matched_by (regex_source regex.now) line.now }
+    ensures same { matcher_pattern matcher.new ≡ matcher_pattern matcher.old }
+{
+    matcher.is_match(line)
+}
+
+/// The numbers of the flags that are set, counted from 1.
+fn numbers(alloc: Global, flags: &[bool]) -> Result<Vec<usize>, NoMemory>
+    ensures { IfOk result (λ numbers. numbers.items ≡ flagged_from 1 flags.now) }
 {
     let mut numbers = Vec::new(alloc);
-    for at in 0..texts.len() {
-        let matched = is_matched(matchers, made, texts[at]);
-        push_if(&mut numbers, matched, at + 1)?;
+    for at in 0..flags.len() {
+        push_if(&mut numbers, flags[at], at + 1)?;
     }
     Ok(numbers)
 }
@@ -69,28 +93,4 @@ fn push_if(numbers: &mut Vec<usize>, passes: bool, number: usize) -> Result<(), 
         numbers.push(number)?;
     }
     Ok(())
-}
-
-/// Whether one of the patterns matches a line.
-fn is_matched(matchers: &mut [Matcher<'_>], made: &[Regex], line: &str) -> bool
-    requires alike { FindAlike matchers.old made.now }
-    requires made { ArePlainlyMade made.now }
-    ensures found { result ≡ is_matched (texts_of made.now) line.now }
-    ensures alike { FindAlike matchers.new made.now }
-{
-    for at in 0..made.len() {
-        if matches(&mut matchers[at], &made[at], line) {
-            return true;
-        }
-    }
-    false
-}
-
-fn matches(matcher: &mut Matcher<'_>, regex: &Regex, line: &str) -> bool
-    requires alike { matcher_pattern matcher.old ≡ regex_pattern regex.now }
-    requires made { IsPlainlyMade regex.now }
-    ensures found { result ≡ is_matched_by (regex_source regex.now) line.now }
-    ensures same { matcher_pattern matcher.new ≡ matcher_pattern matcher.old }
-{
-    matcher.is_match(line)
 }
