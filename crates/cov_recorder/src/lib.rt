@@ -10,6 +10,7 @@
 mod context;
 mod frames;
 mod gather;
+mod hints;
 mod index;
 mod laws;
 mod names;

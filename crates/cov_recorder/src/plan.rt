@@ -3,6 +3,7 @@ ghost use Rattle.std.specs.Prelude.{◌≡◌, map, IfOk};
 ghost use Rattle.cov_recorder.specs.Names.{names_of};
 ghost use Rattle.cov_recorder.specs.Plan.{HaveFirsts, counted, plan_of};
 
+use crate::hints::Hints;
 use crate::names::UnitName;
 use crate::sets::counted;
 use cov_predict::ArcSet;
@@ -11,13 +12,15 @@ use std::alloc::Global;
 use std::marker::Model;
 
 /// The units of a program, what has a counter in each module, whether arcs or lines are counted,
-/// and the static context. A recorder takes it, and hands it on to the next one.
+/// and the static context. A recorder takes it, and hands it on to the next one, with the hints
+/// that help to find counters.
 #[derive(Drop)]
 pub struct RunPlan {
     pub(crate) units: Vec<Vec<UnitName>>,
     pub(crate) sets: Vec<ArcSet>,
     pub(crate) arcs: bool,
     pub(crate) fixed: String,
+    pub(crate) hints: Hints,
 }
 
 impl Model for RunPlan {
@@ -51,11 +54,13 @@ impl RunPlan {
     {
         let fixed = String::from_str(alloc, fixed)?;
         let sets = counted_sets(alloc, arcs, places)?;
+        let hints = Hints::of_sets(alloc, &sets)?;
         Ok(RunPlan {
             units,
             sets,
             arcs,
             fixed,
+            hints,
         })
     }
 }

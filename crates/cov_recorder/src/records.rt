@@ -6,6 +6,7 @@ ghost use Rattle.cov_recorder.specs.Rows.{row_from, with_rows, AreSound};
 
 use crate::frames::{Frame, Frames};
 use crate::gather::add_rows;
+use crate::hints::Hints;
 use crate::names::UnitName;
 use crate::plan::RunPlan;
 use crate::rows::{Counters, Rows};
@@ -29,6 +30,7 @@ pub(crate) struct Records {
     sets: Vec<ArcSet>,
     arcs: bool,
     fixed: String,
+    hints: Hints,
     frames: Frames,
     rows: Rows,
     data: Data,
@@ -64,6 +66,7 @@ impl Records {
             sets,
             arcs,
             fixed,
+            hints,
         } = plan;
         let rows = Rows::new(alloc, units.len())?;
         Ok(Records {
@@ -71,6 +74,7 @@ impl Records {
             sets,
             arcs,
             fixed,
+            hints,
             frames: Frames::new(alloc),
             rows,
             data: Data::new(alloc, arcs),
@@ -140,7 +144,14 @@ impl Records {
             return;
         }
         if let Some(frame) = self.frames.innermost() {
-            count(&self.sets, self.arcs, &mut self.rows, frame, line);
+            count(
+                &self.sets,
+                self.arcs,
+                &mut self.hints,
+                &mut self.rows,
+                frame,
+                line,
+            );
             self.frames.begin(line);
         }
     }
@@ -151,7 +162,7 @@ impl Records {
     {
         if self.arcs {
             if let Some(frame) = self.frames.innermost() {
-                count(&self.sets, true, &mut self.rows, frame, 0);
+                count(&self.sets, true, &mut self.hints, &mut self.rows, frame, 0);
                 drop(self.frames.pop());
             }
         } else {
@@ -169,6 +180,7 @@ impl Records {
             sets,
             arcs,
             fixed,
+            hints,
             frames,
             rows,
             data,
@@ -180,6 +192,7 @@ impl Records {
             sets,
             arcs,
             fixed,
+            hints,
         };
         (found, plan)
     }
