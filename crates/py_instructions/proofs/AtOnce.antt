@@ -1,5 +1,5 @@
 -- Instructions that are done at once.
-use Rattle.std.proofs.Common.{◌≡◌, ℕ, zero, suc, ℤ, Bool, true, false, List, [], ◌∷◌, Some, Ok, refl, sym, ap, ◌∙◌, subst}
+use Rattle.std.proofs.Common.{◌≡◌, ℕ, suc, ℤ, Bool, true, false, List, [], ◌∷◌, Some, Ok, refl, sym, ap, ◌∙◌, subst}
 use Rattle.std.specs.Prelude.{slice_get, if◌then◌else◌, not}
 use Rattle.py_operator.specs.declared.operator.BinOp.{BinOp}
 use Rattle.py_operator.specs.declared.operator.BinOp.TheVariants.{Add, Sub, Mul, Floor, Mod}
@@ -22,40 +22,35 @@ use Rattle.py_code.specs.declared.unit.Constant.{Constant}
 use Rattle.py_code.specs.declared.unit.Unit.{Unit as RawUnit}
 use Rattle.py_code.specs.Changes.{falls, jumps, heap_of, pushes, numbered, where_found, one, two}
 use Rattle.py_code.specs.Configurations.{Operand, Configuration, Next, of_value}
-use Rattle.py_code.specs.Machine.{act, move, move_in, acts, chooses, makes, pushes_answer, pushes_truth}
+use Rattle.py_code.specs.Machine.{act, chooses, makes, pushes_answer, pushes_truth}
 use Rattle.py_code.specs.Operands.{value_in, asked}
 use Rattle.py_code.specs.Run.{Goes}
 use Rattle.py_code.specs.Slots.{by_slots, held}
-use Rattle.py_code.specs.Units.{Module, plain_unit, unit_at, constant_value}
+use Rattle.py_code.specs.Units.{Module, plain_unit, constant_value}
 use Rattle.py_world.specs.declared.store.Store.{Store}
 use Rattle.py_world.specs.Stores.{world_of}
 use Rattle.py_instructions.specs.declared.frame.State.{State}
 use Rattle.py_instructions.specs.declared.operand.Operand.{Operand as RawOperand}
 use Rattle.py_instructions.specs.declared.operand.Operand.TheVariants.{Value as OfValue}
-use Rattle.py_instructions.specs.AtOnce.{DoneAtOnce, PushedAtOnce, WentOn, GoesOn, HasGoneOn}
+use Rattle.py_instructions.specs.AtOnce.{DoneAtOnce, PushedAtOnce, WentOn}
 use Rattle.py_instructions.specs.Locals.{slots_of}
 use Rattle.py_instructions.specs.Operands.{plain_operand}
 use Rattle.py_instructions.specs.View.{Slots, Outside, plain_operands, effects_of, seen}
 
 -- what has a number
-found : {A : Type 0} (xs : List A) (n : ℕ) (x : A) (c : Configuration Slots) (k : A → Next Slots) → slice_get xs n ≡ Some x → numbered xs n c k ≡ k x
+pub found : {A : Type 0} (xs : List A) (n : ℕ) (x : A) (c : Configuration Slots) (k : A → Next Slots) → slice_get xs n ≡ Some x → numbered xs n c k ≡ k x
 found xs n x c k e = ap (λ r. where_found r c k) e
-
--- whether it was done
-module _ (u : RawUnit) (i : Instr) (m m2 : State) (s : Store) where
-  pub done : (b : Bool) → b ≡ true → DoneAtOnce b u i m s m2 → DoneAtOnce true u i m s m2
-  done true e d = d
-  done false e d = absurd cc
-
-  pub undone : (b : Bool) → b ≡ false → DoneAtOnce b u i m s m2 → m2 ≡ m
-  undone true e d = absurd cc
-  undone false e d = d
 
 -- an operand in place of two
 pub put_under : (old new : List RawOperand) (v : Value) (y x : Operand) (rest : List Operand) → plain_operands old ≡ y ∷ x ∷ rest → ((a b : RawOperand) (zs : List RawOperand) → old ≡ a ∷ b ∷ zs → new ≡ OfValue v ∷ zs) → plain_operands new ≡ of_value (plain v) ∷ rest
 put_under [] new v y x rest e f = absurd cc
 put_under (a ∷ []) new v y x rest e f = absurd cc
 put_under (a ∷ b ∷ zs) new v y x rest e f = let t : plain_operands zs ≡ rest = cc in ap plain_operands (f a b zs refl) ∙ ap (λ ys. of_value (plain v) ∷ ys) t
+
+-- an operand in place of one
+pub put_over : (old new : List RawOperand) (v : Value) (x : Operand) (rest : List Operand) → plain_operands old ≡ x ∷ rest → ((a : RawOperand) (zs : List RawOperand) → old ≡ a ∷ zs → new ≡ OfValue v ∷ zs) → plain_operands new ≡ of_value (plain v) ∷ rest
+put_over [] new v x rest e f = absurd cc
+put_over (a ∷ zs) new v x rest e f = let t : plain_operands zs ≡ rest = cc in ap plain_operands (f a zs refl) ∙ ap (λ ys. of_value (plain v) ∷ ys) t
 
 module _ (u : RawUnit) (m m2 : State) (s : Store) where
   -- the same of another instruction that is this one
@@ -91,14 +86,14 @@ module _ (u : RawUnit) (m m2 : State) (s : Store) where
 
 -- ---- two whole numbers
 
-in-binary : (op : BinOp) (x y n : ℤ) (h : PlainHeap) → arithmetic op x y ≡ Ok n → binary_of op (int_value x) (int_value y) h ≡ Ok (int_value n, h)
+pub in-binary : (op : BinOp) (x y n : ℤ) (h : PlainHeap) → arithmetic op x y ≡ Ok n → binary_of op (int_value x) (int_value y) h ≡ Ok (int_value n, h)
 in-binary Add x y n h e = ap (λ r. in_words raised_by (r >>= λ k. gives h (int_value k))) e
 in-binary Sub x y n h e = ap (λ r. in_words raised_by (r >>= λ k. gives h (int_value k))) e
 in-binary Mul x y n h e = ap (λ r. in_words raised_by (r >>= λ k. gives h (int_value k))) e
 in-binary Floor x y n h e = ap (λ r. in_words raised_by (r >>= λ k. gives h (int_value k))) e
 in-binary Mod x y n h e = ap (λ r. in_words raised_by (r >>= λ k. gives h (int_value k))) e
 
-in-place : (op : BinOp) (x y n : ℤ) (h : PlainHeap) → arithmetic op x y ≡ Ok n → in_place_of op (int_value x) (int_value y) h ≡ Ok (int_value n, h)
+pub in-place : (op : BinOp) (x y n : ℤ) (h : PlainHeap) → arithmetic op x y ≡ Ok n → in_place_of op (int_value x) (int_value y) h ≡ Ok (int_value n, h)
 in-place Add x y n h e = ap (λ r. in_words raised_by (r >>= λ k. gives h (int_value k))) e
 in-place Sub x y n h e = ap (λ r. in_words raised_by (r >>= λ k. gives h (int_value k))) e
 in-place Mul x y n h e = ap (λ r. in_words raised_by (r >>= λ k. gives h (int_value k))) e
@@ -194,21 +189,3 @@ module _ (u : RawUnit) (m m2 : State) (s : Store) (to : ℕ) (holds : Bool) (is 
         ∙ chosen_not holds (seen m s o) (plain_operands xs) refl ms
         ∙ ap (λ (n : State). let g : Next Slots = Goes (seen n s o) in g) (sym f),
   )
-
--- ---- one after another
-
-pub goes_more : (ms : List Module) (n : ℕ) (c d e : Configuration Slots) → GoesOn ms n c d → move (by_slots ms) ms d ≡ Goes e → GoesOn ms (suc n) c e
-goes_more ms zero c d e h k = (e, ap (move (by_slots ms) ms) (sym h) ∙ k, refl)
-goes_more ms (suc n) c d e h k = (h.0, h.1, goes_more ms n h.0 d e h.2 k)
-
--- one instruction more
-module _ (ms : List Module) (u : RawUnit) (i : Instr) (first m m2 : State) (s : Store) where
-  moved : unit_at ms m.top.code ≡ Some (plain_unit u) → slice_get u.instrs.items m.top.place ≡ Some i → (o : Outside) → move (by_slots ms) ms (seen m s o) ≡ act (by_slots ms) ms (plain_unit u) i (plain_operands m.top.operands) (seen m s o)
-  moved e f o = ap (λ q. move_in (by_slots ms) ms q (seen m s o)) e ∙ ap (λ q. acts (by_slots ms) ms (plain_unit u) q (seen m s o)) f
-
-  pub ahead_more : unit_at ms m.top.code ≡ Some (plain_unit u) → slice_get u.instrs.items m.top.place ≡ Some i → DoneAtOnce true u i m s m2
-      → ((o : Outside) → HasGoneOn ms (seen first s o) (seen m s o)) → (o : Outside) → HasGoneOn ms (seen first s o) (seen m2 s o)
-  ahead_more e f d h o = let g = h o in (suc g.0, goes_more ms g.0 (seen first s o) (seen m s o) (seen m2 s o) g.1 (moved e f o ∙ d.1 ms o))
-
-  pub unit_stays : unit_at ms m.top.code ≡ Some (plain_unit u) → DoneAtOnce true u i m s m2 → unit_at ms m2.top.code ≡ Some (plain_unit u)
-  unit_stays e d = ap (unit_at ms) d.0 ∙ e

@@ -7,3 +7,4 @@ mod Made
 mod Acting
 mod AtOnce
 mod Replaced
+mod Carrying

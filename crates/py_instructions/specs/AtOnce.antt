@@ -3,6 +3,7 @@
 --     PushedAtOnce          a value was put on top so
 --     WentOn                the top operand was taken away, for a jump or for none
 --     GoesOn, HasGoneOn     moves that go on, one after another
+--     IsNextTurn            such moves, and then one with what is left to do of it
 use Rattle.std.specs.Prelude.{◌≡◌, ℕ, zero, suc, Bool, true, false, if◌then◌else◌, List, ◌∷◌}
 use Rattle.py_value.specs.Plain.{PlainValue}
 use Rattle.py_code.specs.declared.instr.Instr.{Instr}
@@ -14,8 +15,9 @@ use Rattle.py_code.specs.Slots.{by_slots}
 use Rattle.py_code.specs.Units.{Module}
 use Rattle.py_instructions.specs.declared.frame.State.{State}
 use Rattle.py_instructions.specs.declared.operand.Operand.{Operand as RawOperand}
+use Rattle.py_instructions.specs.declared.turn.Turn.{Turn}
 use Rattle.py_instructions.specs.declared.turn.Turn.TheVariants.{Goes as TurnGoes}
-use Rattle.py_instructions.specs.View.{Slots, ActsIn, DoesAlone}
+use Rattle.py_instructions.specs.View.{Slots, Outside, seen, turned, ActsIn, DoesAlone}
 use Rattle.py_world.specs.declared.store.Store.{Store}
 
 -- all of an instruction was done, in the same code, and the machine goes on; or nothing was done
@@ -50,3 +52,12 @@ GoesOn ms (suc n) c d =
 -- some moves lead so from one configuration to another
 abbrev pub HasGoneOn : List Module → Configuration Slots → Configuration Slots → Type 0
 HasGoneOn ms c d = (n : ℕ) × GoesOn ms n c d
+
+-- moves that go on lead to a machine and a store, whose move is a turn, and what came of it
+pub record IsNextTurn (ms : List Module) (m : State) (s : Store) (t : Turn) (m2 : State)
+    (s2 : Store) : Type 0 where
+  pub mid : State
+  pub kept : Store
+  pub ahead : (o : Outside) → HasGoneOn ms (seen m s o) (seen mid kept o)
+  pub turn : (o : Outside)
+      → move (by_slots ms) ms (seen mid kept o) ≡ turned ms t (seen m2 s2 o)

@@ -3,3 +3,4 @@ pub mod Locals
 pub mod View
 pub mod Reaching
 pub mod AtOnce
+pub mod Carried

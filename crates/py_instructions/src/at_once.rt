@@ -38,7 +38,7 @@ fn small(value: &Value) -> Option<Value>
 }
 
 /// What an operator gives of two whole numbers, where it gives one.
-fn calculated(op: BinOp, left: i64, right: i64) -> Option<i64>
+pub(crate) fn calculated(op: BinOp, left: i64, right: i64) -> Option<i64>
     ensures { IfSome result (λ n. arithmetic op left right ≡ Ok n) }
 {
     match calculate(op, left, right) {
@@ -48,7 +48,7 @@ fn calculated(op: BinOp, left: i64, right: i64) -> Option<i64>
 }
 
 /// What a comparison of two whole numbers by their order answers.
-fn tested(question: Question, left: i64, right: i64) -> Option<bool>
+pub(crate) fn tested(question: Question, left: i64, right: i64) -> Option<bool>
     ensures { IfSome result (λ holds. (h : PlainHeap)
         → compared (asked question) (int_value left) (int_value right) h ≡ Ok holds) }
 {

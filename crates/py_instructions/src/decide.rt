@@ -41,7 +41,8 @@ impl State {
         }
     }
 
-    fn act(
+    /// Does an instruction of the unit, as far as the machine does it alone.
+    pub(crate) fn act(
         &mut self,
         alloc: Global,
         instr: Instr,

@@ -2,12 +2,13 @@
 //! it, as far as the machine does it alone.
 //!
 //! `State::decide` does the instruction at the present place, and answers a `Turn`, which is what
-//! is left to do of it. `State::run_ahead` does some of the next ones at once.
+//! is left to do of it. `State::next_turn` does some at once before it.
 #![tactic(auto)]
 
 mod ahead;
 mod at_once;
 mod calls;
+mod carried;
 mod catching;
 mod comparing;
 mod constants;

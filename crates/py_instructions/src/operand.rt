@@ -83,7 +83,7 @@ fn is_builtin(value: &Value) -> bool
 }
 
 /// The whole number that a value is; a bool is none.
-fn number_of(value: &Value) -> Option<i64>
+pub(crate) fn number_of(value: &Value) -> Option<i64>
     ensures { IfSome result (λ n. plain value.now ≡ int_value n) }
 {
     match value {

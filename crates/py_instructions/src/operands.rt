@@ -52,6 +52,15 @@ impl Stack<Operand> {
         }
     }
 
+    /// Puts a value in place of the topmost operand, where there is one.
+    pub(crate) fn put_for_top(&mut self, value: Value)
+        ensures { (x : PlainOperand) (rest : List PlainOperand)
+            → plain_operands self.old ≡ x ∷ rest
+            → plain_operands self.new ≡ of_value (plain value) ∷ rest }
+    {
+        self.replace_top(Operand::Value(value));
+    }
+
     /// Puts a value in place of the two topmost operands, where there are two.
     pub(crate) fn put_for_two(&mut self, value: Value)
         ensures { (y x : PlainOperand) (rest : List PlainOperand)

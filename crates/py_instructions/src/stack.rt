@@ -94,6 +94,18 @@ impl<T: Drop> Stack<T> {
         Ok(())
     }
 
+    /// Puts something in place of the topmost, where there is one.
+    pub(crate) fn replace_top(&mut self, x: T)
+        ensures { (y : T) (rest : List T) → self.old ≡ y ∷ rest → self.new ≡ x ∷ rest }
+    {
+        let count = self.items.len();
+        if count >= 1 {
+            self.items[count - 1] = x;
+        } else {
+            drop(x);
+        }
+    }
+
     /// Puts something in place of the two topmost, where there are two.
     pub(crate) fn replace_two(&mut self, x: T)
         ensures { (z y : T) (rest : List T) → self.old ≡ z ∷ y ∷ rest → self.new ≡ x ∷ rest }

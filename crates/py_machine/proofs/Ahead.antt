@@ -36,20 +36,20 @@ module _ (ms : List Module) (depths : CodeId → List ℕ) (valid : AreValid ms 
       let r = led n h.0 d l.stands h.2 in
       record { same = l.same ∙ r.same; near = omega (arith, l.nearer, r.near); stands = r.stands }
 
-  module _ (m m2 : State) (s : Store) (stand : StandAt ms depths valid m s) (ahead : (o : Outside) → HasGoneOn ms (seen m s o) (seen m2 s o)) where
-    led_at : (o : Outside) → Led (seen m s o) (seen m2 s o)
-    led_at o = let a = ahead o in led a.0 (seen m s o) (seen m2 s o) (stand o) a.1
+  module _ (m m2 : State) (s s2 : Store) (stand : StandAt ms depths valid m s) (ahead : (o : Outside) → HasGoneOn ms (seen m s o) (seen m2 s2 o)) where
+    led_at : (o : Outside) → Led (seen m s o) (seen m2 s2 o)
+    led_at o = let a = ahead o in led a.0 (seen m s o) (seen m2 s2 o) (stand o) a.1
 
-    pub stands_ahead : StandAt ms depths valid m2 s
+    pub stands_ahead : StandAt ms depths valid m2 s2
     stands_ahead = λ o. (led_at o).stands
 
-    pub near_ahead : (o : Outside) → distance (by_slots ms) ms (seen m2 s o) ≤ distance (by_slots ms) ms (seen m s o)
+    pub near_ahead : (o : Outside) → distance (by_slots ms) ms (seen m2 s2 o) ≤ distance (by_slots ms) ms (seen m s o)
     near_ahead o = (led_at o).near
 
     pub reached_ahead : (took : List Event → Type 0) (wrote : List ℕ → Type 0) (before : Outside → Configuration Slots) (tells : Type 0) (i0 i1 : List ℕ) (was is : Bool)
-        → PartOnInput tells i0 i1 was is (Reached took wrote ms before (seen m s)) → PartOnInput tells i0 i1 was is (Reached took wrote ms before (seen m2 s))
+        → PartOnInput tells i0 i1 was is (Reached took wrote ms before (seen m s)) → PartOnInput tells i0 i1 was is (Reached took wrote ms before (seen m2 s2))
     reached_ahead took wrote before tells i0 i1 was is =
-        hears_as tells i0 i1 was is (Reached took wrote ms before (seen m s)) (Reached took wrote ms before (seen m2 s)) (λ all rest x. record {
+        hears_as tells i0 i1 was is (Reached took wrote ms before (seen m s)) (Reached took wrote ms before (seen m2 s2)) (λ all rest x. record {
           events = x.events;
           out = x.out;
           has_told = x.has_told;

@@ -5,6 +5,7 @@
 --     Went                where a move leads
 --     Tells, Passed       a part that only tells events, and one that is left in the middle
 --     Part                any part
+--     After               what holds after moves that go on
 --     Step                one instruction
 --     Reached, Ran        a run on its way, and one that ended
 --     AtStart             where it begins
@@ -33,7 +34,8 @@ use Rattle.py_machine.specs.declared.ending.Ending.{Ending}
 use Rattle.py_machine.specs.Endings.{plain_ended}
 use Rattle.py_instructions.specs.declared.frame.State.{State}
 use Rattle.py_world.specs.declared.store.Store.{Store}
-use Rattle.py_instructions.specs.View.{Slots, Outside, plain_operands, effects_of}
+use Rattle.py_instructions.specs.AtOnce.{HasGoneOn}
+use Rattle.py_instructions.specs.View.{Slots, Outside, plain_operands, effects_of, seen}
 
 -- It holds of every input that gives the answers which were read, and of what this input has left
 -- then. There is such an input. The bytes of a source that tells them are one, and what it left of
@@ -97,6 +99,14 @@ pub record Part (took : List Event → Type 0) (wrote : List ℕ → Type 0)
   pub has_said : wrote out
   pub is : (w : List ℕ) (es : List Event)
       → Went how (before (outside all w es)) (now (outside rest (w ++ out) (es ++ events)))
+
+-- it holds of a machine and a store to which some moves lead that go on
+pub record After (ms : List Module) (m : State) (s : Store) (P : State → Store → Type 0) : Type 0
+  where
+    pub mid : State
+    pub kept : Store
+    pub ahead : (o : Outside) → HasGoneOn ms (seen m s o) (seen mid kept o)
+    pub holds : P mid kept
 
 -- one instruction, and whether the source was at its end
 abbrev pub Step : Type 0 → List ℕ → List ℕ → Bool → Bool → (List Event → Type 0)

@@ -7,7 +7,7 @@ ghost use Rattle.py_code.specs.Loaded.{modules_of, most_numbered};
 ghost use Rattle.py_code.specs.Machine.{move};
 ghost use Rattle.py_code.specs.Slots.{by_slots};
 ghost use Rattle.py_instructions.specs.declared.turn.Turn.TheVariants.{Asks};
-ghost use Rattle.py_machine.specs.Told.{IsAtEnd, Step, TakesUntil, CallsSome, PartOnInputUntil, PartGivenUp};
+ghost use Rattle.py_machine.specs.Told.{IsAtEnd, After, Step, TakesUntil, CallsSome, PartOnInputUntil, PartGivenUp};
 ghost use Rattle.py_instructions.specs.View.{seen, turned};
 
 use crate::ending::Ending;
@@ -127,7 +127,7 @@ fn perform<T: Tracer, I: Source, O: Sink>(
     }
 }
 
-/// One instruction.
+/// Instructions that are done at once, and then one with what is left to do of it.
 pub fn step<T: Tracer, I: Source, O: Sink>(
     alloc: Global,
     m: &mut State,
@@ -140,18 +140,18 @@ pub fn step<T: Tracer, I: Source, O: Sink>(
 ) -> Result<Option<Ending>, RunFault>
     requires few { length (modules_of programs.now) ≤ most_numbered }
     requires end { IsAtEnd at_end.old I.tells (I.left input.old) }
-    ensures ok { IfOk result (λ how. Step I.tells (I.left input.old) (I.left input.new)
-        at_end.old at_end.new
+    ensures ok { IfOk result (λ how. After (modules_of programs.now) m.old store.old
+        (λ mid kept. Step I.tells (I.left input.old) (I.left input.new) at_end.old at_end.new
         (λ es. Takes T.moves tracer.old es tracer.new)
         (Wrote O.tells (O.contents out.old) (O.contents out.new))
         (λ o. move (by_slots (modules_of programs.now)) (modules_of programs.now)
-        (seen m.old store.old o)) (seen m.new store.new) how) }
-    ensures given_up { IfErr result (λ fault. PartOnInputUntil I.tells (I.left input.old)
-        (I.left input.new) at_end.old
+        (seen mid kept o)) (seen m.new store.new) how)) }
+    ensures given_up { IfErr result (λ fault. After (modules_of programs.now) m.old store.old
+        (λ mid kept. PartOnInputUntil I.tells (I.left input.old) (I.left input.new) at_end.old
         (PartGivenUp (λ es. TakesUntil T.moves T.refused fault tracer.old es tracer.new) O.tells
-        (O.contents out.old) (O.contents out.new) store.old
+        (O.contents out.old) (O.contents out.new) kept
         (λ o. move (by_slots (modules_of programs.now)) (modules_of programs.now)
-        (seen m.old store.old o)))) }
+        (seen mid kept o))))) }
     ensures unread { at_end.old ≡ true → input.new ≡ input.old }
     ensures calls { CallsSome T.moves T.refused tracer.old tracer.new }
     ensures reads { I.faults input.old ≤ I.faults input.new }
@@ -161,6 +161,6 @@ pub fn step<T: Tracer, I: Source, O: Sink>(
     ensures write_fault { IsErrOf result RunFault.WriteFault
         → Rose (O.faults out.old) (O.faults out.new) }
 {
-    let turn = m.decide(alloc, store, programs)?;
+    let turn = m.next_turn(alloc, store, programs)?;
     Ok(perform(turn, alloc, m, store, programs, tracer, at_end, input, out)?)
 }

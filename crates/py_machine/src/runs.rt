@@ -200,7 +200,6 @@ fn go_on<T: Tracer, I: Source, O: Sink>(
     // Whether the input was found at its end. It isn't read again then.
     let mut at_end = false;
     loop {
-        m.run_ahead(store, programs);
         if let Some(ending) = step(alloc, m, store, programs, tracer, &mut at_end, input, out)? {
             return Ok(ending);
         }

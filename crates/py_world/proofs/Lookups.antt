@@ -1,9 +1,10 @@
 -- What stands in lists that are seen plainly.
-use Rattle.std.proofs.Common.{◌≡◌, ℕ, zero, suc, ◌≤◌, List, [], ◌∷◌, ◌++◌, length, map, take, drop, Some, None, refl, ap, ◌∙◌, arith}
-use Rattle.std.specs.Prelude.{slice_get, slice_set, remove}
+use Rattle.std.proofs.Common.{◌≡◌, ℕ, zero, suc, ◌≤◌, ℤ, List, [], ◌∷◌, ◌++◌, length, map, take, drop, Some, None, refl, ap, ◌∙◌, arith}
+use Rattle.std.specs.Prelude.{Option, slice_get, slice_set, remove, IfSome}
 use Rattle.std.specs.Option.{option_map}
 use Rattle.std.proofs.lemmas.List.{map-append}
 use Rattle.std.proofs.lemmas.Option.{slice_get-map}
+use Rattle.py_value.specs.Plain.{PlainValue, int_value}
 
 pub mapped : {A B : Type 0} (f : A → B) (xs : List A) (k : ℕ) (x : A) → slice_get xs k ≡ Some x → slice_get (map f xs) k ≡ Some (f x)
 mapped f xs k x e = slice_get-map f xs k ∙ ap (option_map f) e
@@ -33,3 +34,8 @@ pub slice_set_past : {A : Type 0} (xs : List A) (k : ℕ) (x : A) → length xs 
 slice_set_past [] k x le = refl
 slice_set_past (y ∷ ys) zero x le = absurd (omega arith)
 slice_set_past (y ∷ ys) (suc k) x le = ap (λ zs. y ∷ zs) (slice_set_past ys k x (omega arith))
+
+-- a value that is found, if it is a whole number
+pub whole_if : (n : Option ℤ) (v : PlainValue) {o : Option PlainValue} → o ≡ Some v → IfSome n (λ k. v ≡ int_value k) → IfSome n (λ k. o ≡ Some (int_value k))
+whole_if None v e h = h
+whole_if (Some k) v e h = e ∙ ap Some h

@@ -20,14 +20,15 @@ one_more m old new g whole e f le h =
 pub enough_room : (m : ℕ) (gs : List Globals) (whole : List Names) → m < length gs → with_names_at m (λ n. n) (map names_of gs) ≡ whole → map names_of gs ≡ whole
 enough_room m gs whole lt h = sym (room_enough m (map names_of gs) (omega (arith, length-map gs names_of))) ∙ h
 
-pub changed_at : (m : ℕ) (old : List Names) (gs : List Globals) (g new : Globals) (f : Names → Names) → map names_of gs ≡ with_names_at m (λ n. n) old → m < length gs → g ≡ get_or gs m g → names_of new ≡ f (names_of g)
-    → map names_of (slice_set gs m new) ≡ with_names_at m f old
-changed_at m old gs g new f e lt at k =
+pub changed_here : (m : ℕ) (gs : List Globals) (g new : Globals) (f : Names → Names) → m < length gs → g ≡ get_or gs m g → names_of new ≡ f (names_of g) → map names_of (slice_set gs m new) ≡ with_names_at m f (map names_of gs)
+changed_here m gs g new f lt at k =
     map-slice_set names_of gs m new
     ∙ ap (slice_set (map names_of gs) m) k
     ∙ sym (with_at m (map names_of gs) f (names_of g) (mapped names_of gs m g (slice_get_read gs (length gs) m g refl lt at)))
-    ∙ ap (with_names_at m f) e
-    ∙ with_twice m old f
+
+pub changed_at : (m : ℕ) (old : List Names) (gs : List Globals) (g new : Globals) (f : Names → Names) → map names_of gs ≡ with_names_at m (λ n. n) old → m < length gs → g ≡ get_or gs m g → names_of new ≡ f (names_of g)
+    → map names_of (slice_set gs m new) ≡ with_names_at m f old
+changed_at m old gs g new f e lt at k = changed_here m gs g new f lt at k ∙ ap (with_names_at m f) e ∙ with_twice m old f
 
 pub found_names : (m : ℕ) (gs : List Globals) (g : Globals) → slice_get gs m ≡ Some g → names_at m (map names_of gs) ≡ names_of g
 found_names m gs g e = names_found m (map names_of gs) (names_of g) (mapped names_of gs m g e)

@@ -1,5 +1,6 @@
 // The globals of a module.
-ghost use Rattle.std.specs.Prelude.{◌≡◌, ◌<◌, [], List, ℕ, None, Some, length, map, slice_get, IfOk, IfSome, OnOk, MatchOption};
+ghost use Rattle.std.specs.Prelude.{◌≡◌, ◌<◌, [], List, ℕ, None, Some, length, map, slice_get, IsTrue, IfOk, IfSome, OnOk, MatchOption};
+ghost use Rattle.py_value.specs.Plain.{int_value};
 ghost use Rattle.py_value.specs.View.{plain};
 ghost use Rattle.py_builtins.specs.Predefined.{predefined};
 ghost use Rattle.py_builtins.specs.World.{value_of, with_name, without_name};
@@ -7,7 +8,9 @@ ghost use Rattle.py_world.specs.Numbered.{HaveOwnNames, AreListed, plain_global,
 
 use crate::known_names::predefined;
 use crate::name::Name;
-use crate::numbering::{copied, is_set, last_place, name_at, number_of, unset_again, value_at};
+use crate::numbering::{
+    copied, is_at, is_set, last_place, name_at, number_of, unset_again, value_at,
+};
 use py_value::{NoMemory, Text, Value};
 use std::alloc::Global as Alloc;
 
@@ -29,7 +32,7 @@ pub struct Globals {
 }
 
 impl Globals {
-    ghost use Rattle.py_world.specs.Globals.{names_of};
+    ghost use Rattle.py_world.specs.Globals.{names_of, IsSetAt, IsKnown};
 
     pub fn new(alloc: Alloc) -> Globals
         ensures { names_of result ≡ [] }
@@ -129,6 +132,38 @@ impl Globals {
         Ok(number)
     }
 
+    /// The whole number that a name is set to, if it has this number and is set to one.
+    pub(crate) fn whole(&self, name: &Text, number: usize) -> Option<i64>
+        ensures { IfSome result (λ n. value_of name.now (names_of self.now)
+            ≡ Some (int_value n)) }
+    {
+        if !is_at(&self.items, number, name) {
+            return None;
+        }
+        match value_at(&self.items, number) {
+            None => None,
+            Some(value) => whole_number(value),
+        }
+    }
+
+    /// Whether a name is set and has this number.
+    pub(crate) fn is_known(&self, name: &Text, number: usize) -> bool
+        ensures { IsTrue result → IsKnown name.now number self.now }
+    {
+        is_at(&self.items, number, name) && is_set(&self.items, number)
+    }
+
+    /// Sets the name at a number, which is set already. It keeps its place.
+    pub(crate) fn set_again(&mut self, number: usize, value: Value)
+        requires within { number < length self.old.items.items }
+        requires set { IsSetAt number self.old }
+        ensures { (x : List ℕ)
+            → slice_get (global_names self.old.items.items) number ≡ Some x
+            → names_of self.new ≡ with_name x (plain value) (names_of self.old) }
+    {
+        self.items[number].value = Some(value);
+    }
+
     /// Sets the name at a number.
     fn set_at(&mut self, number: usize, value: Value) -> Result<(), NoMemory>
         requires { number < length self.old.items.items }
@@ -137,7 +172,7 @@ impl Globals {
             → names_of self.new ≡ with_name x (plain value) (names_of self.old)) }
     {
         if is_set(&self.items, number) {
-            self.items[number].value = Some(value);
+            self.set_again(number, value);
             return Ok(());
         }
         self.order.push(number)?;
@@ -157,5 +192,16 @@ impl Globals {
         };
         self.order.remove(place);
         self.items[number].value = None;
+    }
+}
+
+/// The whole number that a value is; a bool is none.
+fn whole_number(value: &Value) -> Option<i64>
+    ensures { IfSome result (λ n. plain value.now ≡ int_value n) }
+{
+    if let Value::Int(n) = value {
+        Some(*n)
+    } else {
+        None
     }
 }

@@ -23,7 +23,7 @@ pub fn number_of(globals: &[Global], name: &Text, likely: Option<usize>) -> Opti
 }
 
 /// Whether a name has this number.
-fn is_at(globals: &[Global], number: usize, name: &Text) -> bool
+pub fn is_at(globals: &[Global], number: usize, name: &Text) -> bool
     ensures { IsTrue result → slice_get (global_names globals.now) number ≡ Some name.now }
 {
     match globals.get(number) {

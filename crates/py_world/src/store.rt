@@ -1,6 +1,6 @@
 // What a program's modules hold.
-ghost use Rattle.std.specs.Prelude.{◌≡◌, ◌<◌, None, Some, length, map, slice_get, IfOk, OnOk, MatchOption};
-ghost use Rattle.py_value.specs.Plain.{str_value};
+ghost use Rattle.std.specs.Prelude.{◌≡◌, ◌<◌, None, Some, length, map, slice_get, IfOk, IfSome, OnOk, MatchOption};
+ghost use Rattle.py_value.specs.Plain.{int_value, str_value};
 ghost use Rattle.py_value.specs.View.{plain, plains};
 ghost use Rattle.py_builtins.specs.Predefined.{predefined};
 ghost use Rattle.py_builtins.specs.World.{value_of, with_names_at, global_of, with_global, without_global, sys_name, is_begun, with_begun, first_names, without_number};
@@ -10,8 +10,7 @@ ghost use Rattle.py_code.specs.Machine.{begun_by, failed_by, name_at};
 ghost use Rattle.py_world.specs.Globals.{names_of};
 ghost use Rattle.py_world.specs.Values.{plain_option};
 ghost use Rattle.py_code.specs.Programs.{first_world, no_names};
-ghost use Rattle.py_world.specs.Stores.{words_of};
-ghost use Rattle.py_world.specs.Stores.{world_of};
+ghost use Rattle.py_world.specs.Stores.{words_of, world_of, IsSetOrSame};
 
 use crate::globals::Globals;
 use crate::known_names::predefined;
@@ -90,6 +89,21 @@ impl Store {
         self.found(code.module, name, self.links.number(code, n))
     }
 
+    /// The whole number that a global of the module of a code is set to, if it is found at once by
+    /// the number that its name has in the code.
+    pub fn whole_at(&self, code: CodeId, n: u32, name: &Text) -> Option<i64>
+        ensures { IfSome result (λ k. global_of code.module name.now (world_of self.now)
+            ≡ Some (int_value k)) }
+    {
+        let Some(number) = self.links.number(code, n) else {
+            return None;
+        };
+        match self.globals_of(code.module) {
+            None => None,
+            Some(globals) => globals.whole(name, number),
+        }
+    }
+
     /// The value of what is predefined under a name, which has this number in the code.
     pub fn predefined_at(&self, code: CodeId, n: u32, name: &Text) -> Option<Value>
         ensures { MatchOption result (value_of name.now predefined ≡ None) (λ v.
@@ -136,6 +150,22 @@ impl Store {
         make_room(alloc, &mut self.globals, code.module as usize)?;
         self.globals[code.module as usize].set(name, likely, value)?;
         Ok(())
+    }
+
+    /// Sets a global of the module of a code, or does nothing, and says which. It is set where it
+    /// has a value already and is found by the number that its name has in the code.
+    pub fn set_known(&mut self, code: CodeId, n: u32, name: &Text, value: Value) -> bool
+        ensures { IsSetOrSame result code.module name.now (plain value) self.old self.new }
+    {
+        let Some(number) = self.links.number(code, n) else {
+            return false;
+        };
+        let module = code.module as usize;
+        if module >= self.globals.len() || !self.globals[module].is_known(name, number) {
+            return false;
+        }
+        self.globals[module].set_again(number, value);
+        true
     }
 
     /// Unsets a global of the module of a code. Its name has this number in the code.

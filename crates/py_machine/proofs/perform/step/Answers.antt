@@ -1,4 +1,4 @@
-use Rattle.std.proofs.Common.{refl}
+use Rattle.std.proofs.Common.{zero, refl}
 use Rattle.py_code.specs.Loaded.{modules_of}
 use Rattle.py_code.specs.Slots.{by_slots}
 use Rattle.py_instructions.specs.View.{seen}
@@ -11,20 +11,38 @@ use Rattle.py_machine.proofs.Stops.{only_given_up, broken_as}
 use Rattle.py_machine.proofs.perform.step.Goals as goal
 
 pub returns-clause-ok : goal.returns-clause-ok
-returns-clause-ok g c = step_as _ _ _ _ _ _ _ _ _ _ c.in_ok-perform.field-0 c.in_ok-turn.ensures c.in_ok-perform.ensures.ok
+returns-clause-ok g c =
+    let next = c.in_ok-turn.ensures in
+    record {
+      mid = next.mid;
+      kept = next.kept;
+      ahead = next.ahead;
+      holds = step_as _ _ _ _ _ _ _ _ _ _ c.in_ok-perform.field-0 next.turn c.in_ok-perform.ensures.ok;
+    }
 
 pub returns-in_err-turn-clause-given_up : goal.returns-in_err-turn-clause-given_up
 returns-in_err-turn-clause-given_up g c =
-    if_fault _ _ _ c.from_residual.ensures.1 (only_given_up _ g.O.Sink.tells (g.O.Sink.contents c.args.out.now) c.args.store.now _ g.I.Source.tells c.args.at_end.now (g.I.Source.left c.args.input.now) c.requires.end
-    (gives_up_first g.T.Tracer.moves g.T.Tracer.refused c.args.tracer.now c.args.store.now _
-    (λ o. moves_grow (by_slots (modules_of c.args.programs.now)) (modules_of c.args.programs.now) (seen c.args.m.now c.args.store.now o))))
+    if_fault _ _ _ c.from_residual.ensures.1 (record {
+      mid = c.args.m.now;
+      kept = c.args.store.now;
+      ahead = λ o. (zero, refl);
+      holds = only_given_up _ g.O.Sink.tells (g.O.Sink.contents c.args.out.now) c.args.store.now _ g.I.Source.tells c.args.at_end.now (g.I.Source.left c.args.input.now) c.requires.end
+          (gives_up_first g.T.Tracer.moves g.T.Tracer.refused c.args.tracer.now c.args.store.now _
+          (λ o. moves_grow (by_slots (modules_of c.args.programs.now)) (modules_of c.args.programs.now) (seen c.args.m.now c.args.store.now o)));
+    })
 
 pub returns-in_err-turn-clause-calls : goal.returns-in_err-turn-clause-calls
 returns-in_err-turn-clause-calls g c = calls_none g.T.Tracer.moves g.T.Tracer.refused c.args.tracer.now
 
 pub returns-in_err-perform-clause-given_up : goal.returns-in_err-perform-clause-given_up
 returns-in_err-perform-clause-given_up g c =
-    if_fault _ _ _ c.from_residual-in_err-perform.ensures.1 (broken_as _ _ _ _ _ _ _ _ c.args.store.now c.decide.new.store _ _ c.in_ok-turn.ensures c.in_err-perform.ensures.given_up)
+    let next = c.in_ok-turn.ensures in
+    if_fault _ _ _ c.from_residual-in_err-perform.ensures.1 (record {
+      mid = next.mid;
+      kept = next.kept;
+      ahead = next.ahead;
+      holds = broken_as _ _ _ _ _ _ _ _ next.kept c.next_turn.new.store _ _ next.turn c.in_err-perform.ensures.given_up;
+    })
 
 pub returns-in_err-turn-clause-ok : goal.returns-in_err-turn-clause-ok
 returns-in_err-turn-clause-ok g c = if_err _ _ c.from_residual.ensures.0

@@ -21,37 +21,40 @@ loop-ending-init g c = record {
 pub returns-in-Some-clause-ok : goal.returns-in-Some-clause-ok
 returns-in-Some-clause-ok g c =
     let st = c.loop-ending.invariant.stand in
-    let stand = stands_ahead (modules_of c.args.programs.now) st.0 st.1 c.loop-ending.m c.run_ahead.new.self c.loop-ending.store st.2 c.run_ahead.ensures in
-    let reached = reached_ahead (modules_of c.args.programs.now) st.0 st.1 c.loop-ending.m c.run_ahead.new.self c.loop-ending.store st.2 c.run_ahead.ensures _ _ _ g.I.Source.tells (g.I.Source.left c.args.input.now) (g.I.Source.left c.loop-ending.input) false c.loop-ending.at_end c.loop-ending.invariant.reached in
+    let went = c.in_ok-ending.ensures.ok in
+    let stand = stands_ahead (modules_of c.args.programs.now) st.0 st.1 c.loop-ending.m went.mid c.loop-ending.store went.kept st.2 went.ahead in
+    let reached = reached_ahead (modules_of c.args.programs.now) st.0 st.1 c.loop-ending.m went.mid c.loop-ending.store went.kept st.2 went.ahead _ _ _ g.I.Source.tells (g.I.Source.left c.args.input.now) (g.I.Source.left c.loop-ending.input) false c.loop-ending.at_end c.loop-ending.invariant.reached in
     last_at (modules_of c.args.programs.now) st.0 st.1 g.T.Tracer.moves c.args.tracer.now c.loop-ending.tracer c.step.new.tracer
     g.O.Sink.tells (g.O.Sink.contents c.args.out.now) (g.O.Sink.contents c.loop-ending.out) (g.O.Sink.contents c.step.new.out) g.I.Source.tells (g.I.Source.left c.args.input.now) (g.I.Source.left c.loop-ending.input) (g.I.Source.left c.step.new.input) false c.loop-ending.at_end c.step.new.at_end
-    c.args.m.now c.run_ahead.new.self c.step.new.m c.args.store.now c.loop-ending.store c.step.new.store stand c.in_ok-ending.field-0 c.in-Some.ending c.in-Some.is reached c.in_ok-ending.ensures.ok
+    c.args.m.now went.mid c.step.new.m c.args.store.now went.kept c.step.new.store stand c.in_ok-ending.field-0 c.in-Some.ending c.in-Some.is reached went.holds
 
 pub loop-ending-smaller : goal.loop-ending-smaller
 loop-ending-smaller g c =
     let st = c.loop-ending.invariant.stand in
-    let stand = stands_ahead (modules_of c.args.programs.now) st.0 st.1 c.loop-ending.m c.run_ahead.new.self c.loop-ending.store st.2 c.run_ahead.ensures in
-    let far = near_ahead (modules_of c.args.programs.now) st.0 st.1 c.loop-ending.m c.run_ahead.new.self c.loop-ending.store st.2 c.run_ahead.ensures (record { input = []; out = []; events = [] }) in
+    let went = c.in_ok-ending.ensures.ok in
+    let stand = stands_ahead (modules_of c.args.programs.now) st.0 st.1 c.loop-ending.m went.mid c.loop-ending.store went.kept st.2 went.ahead in
+    let far = near_ahead (modules_of c.args.programs.now) st.0 st.1 c.loop-ending.m went.mid c.loop-ending.store went.kept st.2 went.ahead (record { input = []; out = []; events = [] }) in
     let near = nearer_at (modules_of c.args.programs.now) st.0 st.1 g.T.Tracer.moves c.args.tracer.now c.loop-ending.tracer c.step.new.tracer
     g.O.Sink.tells (g.O.Sink.contents c.args.out.now) (g.O.Sink.contents c.loop-ending.out) (g.O.Sink.contents c.step.new.out) g.I.Source.tells (g.I.Source.left c.args.input.now) (g.I.Source.left c.loop-ending.input) (g.I.Source.left c.step.new.input) false c.loop-ending.at_end c.step.new.at_end
-    c.args.m.now c.run_ahead.new.self c.step.new.m c.args.store.now c.loop-ending.store c.step.new.store stand c.in_ok-ending.field-0 c.in_default.is c.in_ok-ending.ensures.ok in
+    c.args.m.now went.mid c.step.new.m c.args.store.now went.kept c.step.new.store stand c.in_ok-ending.field-0 c.in_default.is went.holds in
     omega (arith, far, near)
 
 pub loop-ending-preserved : goal.loop-ending-preserved
 loop-ending-preserved g c =
     let st = c.loop-ending.invariant.stand in
-    let stand = stands_ahead (modules_of c.args.programs.now) st.0 st.1 c.loop-ending.m c.run_ahead.new.self c.loop-ending.store st.2 c.run_ahead.ensures in
-    let reached = reached_ahead (modules_of c.args.programs.now) st.0 st.1 c.loop-ending.m c.run_ahead.new.self c.loop-ending.store st.2 c.run_ahead.ensures _ _ _ g.I.Source.tells (g.I.Source.left c.args.input.now) (g.I.Source.left c.loop-ending.input) false c.loop-ending.at_end c.loop-ending.invariant.reached in
+    let went = c.in_ok-ending.ensures.ok in
+    let stand = stands_ahead (modules_of c.args.programs.now) st.0 st.1 c.loop-ending.m went.mid c.loop-ending.store went.kept st.2 went.ahead in
+    let reached = reached_ahead (modules_of c.args.programs.now) st.0 st.1 c.loop-ending.m went.mid c.loop-ending.store went.kept st.2 went.ahead _ _ _ g.I.Source.tells (g.I.Source.left c.args.input.now) (g.I.Source.left c.loop-ending.input) false c.loop-ending.at_end c.loop-ending.invariant.reached in
     record {
       reached = further_at (modules_of c.args.programs.now) st.0 st.1 g.T.Tracer.moves c.args.tracer.now c.loop-ending.tracer c.step.new.tracer
           g.O.Sink.tells (g.O.Sink.contents c.args.out.now) (g.O.Sink.contents c.loop-ending.out) (g.O.Sink.contents c.step.new.out) g.I.Source.tells (g.I.Source.left c.args.input.now) (g.I.Source.left c.loop-ending.input) (g.I.Source.left c.step.new.input) false c.loop-ending.at_end c.step.new.at_end
-          c.args.m.now c.run_ahead.new.self c.step.new.m c.args.store.now c.loop-ending.store c.step.new.store stand c.in_ok-ending.field-0 c.in_default.is reached c.in_ok-ending.ensures.ok;
+          c.args.m.now went.mid c.step.new.m c.args.store.now went.kept c.step.new.store stand c.in_ok-ending.field-0 c.in_default.is reached went.holds;
       stand = (
         st.0,
         st.1,
         stands_at (modules_of c.args.programs.now) st.0 st.1 g.T.Tracer.moves c.args.tracer.now c.loop-ending.tracer c.step.new.tracer
             g.O.Sink.tells (g.O.Sink.contents c.args.out.now) (g.O.Sink.contents c.loop-ending.out) (g.O.Sink.contents c.step.new.out) g.I.Source.tells (g.I.Source.left c.args.input.now) (g.I.Source.left c.loop-ending.input) (g.I.Source.left c.step.new.input) false c.loop-ending.at_end c.step.new.at_end
-            c.args.m.now c.run_ahead.new.self c.step.new.m c.args.store.now c.loop-ending.store c.step.new.store stand c.in_ok-ending.field-0 c.in_default.is c.in_ok-ending.ensures.ok,
+            c.args.m.now went.mid c.step.new.m c.args.store.now went.kept c.step.new.store stand c.in_ok-ending.field-0 c.in_default.is went.holds,
       );
       calls = calls_then g.T.Tracer.moves g.T.Tracer.refused c.args.tracer.now c.loop-ending.tracer c.step.new.tracer c.loop-ending.invariant.calls c.in_ok-ending.ensures.calls;
       writes = omega (arith, c.loop-ending.invariant.writes, c.in_ok-ending.ensures.writes);
@@ -61,10 +64,11 @@ loop-ending-preserved g c =
 pub returns-in_err-ending-clause-given_up : goal.returns-in_err-ending-clause-given_up
 returns-in_err-ending-clause-given_up g c =
     let st = c.loop-ending.invariant.stand in
-    let stand = stands_ahead (modules_of c.args.programs.now) st.0 st.1 c.loop-ending.m c.run_ahead.new.self c.loop-ending.store st.2 c.run_ahead.ensures in
-    let reached = reached_ahead (modules_of c.args.programs.now) st.0 st.1 c.loop-ending.m c.run_ahead.new.self c.loop-ending.store st.2 c.run_ahead.ensures _ _ _ g.I.Source.tells (g.I.Source.left c.args.input.now) (g.I.Source.left c.loop-ending.input) false c.loop-ending.at_end c.loop-ending.invariant.reached in
+    let went = c.in_err-ending.ensures.given_up in
+    let stand = stands_ahead (modules_of c.args.programs.now) st.0 st.1 c.loop-ending.m went.mid c.loop-ending.store went.kept st.2 went.ahead in
+    let reached = reached_ahead (modules_of c.args.programs.now) st.0 st.1 c.loop-ending.m went.mid c.loop-ending.store went.kept st.2 went.ahead _ _ _ g.I.Source.tells (g.I.Source.left c.args.input.now) (g.I.Source.left c.loop-ending.input) false c.loop-ending.at_end c.loop-ending.invariant.reached in
     if_fault _ _ _ c.from_residual.ensures.1 (stops_on g.T.Tracer.moves g.T.Tracer.refused _ c.args.tracer.now c.loop-ending.tracer c.step.new.tracer g.O.Sink.tells (g.O.Sink.contents c.args.out.now) (g.O.Sink.contents c.loop-ending.out) (g.O.Sink.contents c.step.new.out) g.I.Source.tells (g.I.Source.left c.args.input.now) (g.I.Source.left c.loop-ending.input) (g.I.Source.left c.step.new.input) false c.loop-ending.at_end
-    (modules_of c.args.programs.now) st.0 st.1 c.args.m.now c.run_ahead.new.self c.args.store.now c.loop-ending.store stand reached c.in_err-ending.ensures.given_up)
+    (modules_of c.args.programs.now) st.0 st.1 c.args.m.now went.mid c.args.store.now went.kept stand reached went.holds)
 
 pub returns-in_err-ending-clause-calls : goal.returns-in_err-ending-clause-calls
 returns-in_err-ending-clause-calls g c = calls_then g.T.Tracer.moves g.T.Tracer.refused c.args.tracer.now c.loop-ending.tracer c.step.new.tracer c.loop-ending.invariant.calls c.in_err-ending.ensures.calls
