@@ -3,7 +3,7 @@
 use crate::rows::{Row, wrong};
 use std::test::Fail;
 
-static ROWS: [Row; 21] = [
+static ROWS: [Row; 20] = [
     Row {
         title: "A number that is too large",
         source: "\
@@ -145,15 +145,6 @@ except SystemExit as e:
         out: "[SystemExit(4)]\n",
         end: "finished",
         steps: 6,
-        events: "",
-        arcs: "",
-    },
-    Row {
-        title: "No text",
-        source: "raise ValueError\n",
-        out: "",
-        end: "ValueError",
-        steps: 2,
         events: "",
         arcs: "",
     },

@@ -40,8 +40,6 @@ mod terminal;
 #[cfg(test)]
 mod worked;
 #[cfg(test)]
-mod worked_forms;
-#[cfg(test)]
 mod writer;
 #[cfg(test)]
 mod written;

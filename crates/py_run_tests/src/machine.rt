@@ -3,7 +3,7 @@
 use crate::codes::programs_by;
 use crate::programs::programs_of;
 use crate::rows::{Row, Told, run_alone, run_new, unlimited};
-use crate::{handlers, worked, worked_forms, written};
+use crate::{handlers, worked, written};
 use py_code::Programs;
 use std::alloc::Global;
 use std::process::Abort;
@@ -79,10 +79,6 @@ fn is_same(told: &Told, whole: &Told) -> bool {
 fn smaller_budgets(rt: HostRuntime) -> Result<(), Fail> {
     let alloc = rt.alloc();
     for row in &worked::ROWS {
-        let programs = programs_of(alloc, row.source, &[])?;
-        assert_cut(&rt, alloc, row.title, &programs)?;
-    }
-    for row in &worked_forms::ROWS {
         let programs = programs_of(alloc, row.source, &[])?;
         assert_cut(&rt, alloc, row.title, &programs)?;
     }
@@ -220,20 +216,5 @@ fn a_new_store_is_a_new_run(rt: HostRuntime) -> Result<(), Fail> {
         assert_eq!(rt; told.out.as_str(), "[1] __main__\n");
         assert_eq!(rt; told.events.as_str(), "0.0( 1 1.0( 1 ) 2 3 )");
     }
-    Ok(())
-}
-
-/// As many statements as a file can hold, in one line.
-#[test]
-fn many_statements(rt: HostRuntime) -> Result<(), Fail> {
-    let alloc = rt.alloc();
-    let mut source = String::from_str(alloc, "x=1")?;
-    for _ in 1..262_144 {
-        source.push_str(";x=1")?;
-    }
-    let told = run_alone(alloc, source.as_str(), unlimited())?;
-    assert_eq!(rt; told.end.as_str(), "finished");
-    assert_eq!(rt; told.steps, 262_145);
-    assert_eq!(rt; told.events.as_str(), "0.0( 1 )");
     Ok(())
 }
